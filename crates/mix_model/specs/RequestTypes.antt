@@ -1,0 +1,140 @@
+-- The types of request, as obs-websocket 5 names them, each list in byte order.
+use Rattle.std.specs.Prelude.{ℕ, Bool, List, [], ◌∷◌, codes, bytes_eq}
+use Rattle.std.specs.List.{list_any}
+
+-- whether the type is in the list
+abbrev pub has_type : List ℕ → List (List ℕ) → Bool
+has_type type types = list_any (λ t. bytes_eq t type) types
+
+-- requests on scenes
+abbrev pub scene_requests : List (List ℕ)
+scene_requests = codes "CreateScene"
+    ∷ (codes "GetCurrentPreviewScene"
+    ∷ (codes "GetCurrentProgramScene"
+    ∷ (codes "GetGroupList"
+    ∷ (codes "GetSceneList"
+    ∷ (codes "GetSourceActive"
+    ∷ (codes "RemoveScene"
+    ∷ (codes "SetCurrentPreviewScene"
+    ∷ (codes "SetCurrentProgramScene"
+    ∷ (codes "SetSceneName" ∷ [])))))))))
+
+-- requests on items of scenes and groups
+abbrev pub item_requests : List (List ℕ)
+item_requests = codes "CreateSceneItem"
+    ∷ (codes "DuplicateSceneItem"
+    ∷ (codes "GetGroupSceneItemList"
+    ∷ (codes "GetSceneItemBlendMode"
+    ∷ (codes "GetSceneItemEnabled"
+    ∷ (codes "GetSceneItemId"
+    ∷ (codes "GetSceneItemIndex"
+    ∷ (codes "GetSceneItemList"
+    ∷ (codes "GetSceneItemLocked"
+    ∷ (codes "GetSceneItemTransform"
+    ∷ (codes "RemoveSceneItem"
+    ∷ (codes "SetSceneItemBlendMode"
+    ∷ (codes "SetSceneItemEnabled"
+    ∷ (codes "SetSceneItemIndex"
+    ∷ (codes "SetSceneItemLocked"
+    ∷ (codes "SetSceneItemTransform" ∷ [])))))))))))))))
+
+-- requests on inputs
+abbrev pub input_requests : List (List ℕ)
+input_requests = codes "CreateInput"
+    ∷ (codes "GetInputAudioSyncOffset"
+    ∷ (codes "GetInputAudioTracks"
+    ∷ (codes "GetInputKindList"
+    ∷ (codes "GetInputList"
+    ∷ (codes "GetInputMute"
+    ∷ (codes "GetInputSettings"
+    ∷ (codes "GetInputVolume"
+    ∷ (codes "RemoveInput"
+    ∷ (codes "SetInputAudioSyncOffset"
+    ∷ (codes "SetInputAudioTracks"
+    ∷ (codes "SetInputMute"
+    ∷ (codes "SetInputName"
+    ∷ (codes "SetInputSettings"
+    ∷ (codes "SetInputVolume"
+    ∷ (codes "ToggleInputMute" ∷ [])))))))))))))))
+
+-- requests on transitions, studio mode, recording and the mixer itself
+abbrev pub output_requests : List (List ℕ)
+output_requests = codes "BroadcastCustomEvent"
+    ∷ (codes "CallVendorRequest"
+    ∷ (codes "GetCurrentSceneTransition"
+    ∷ (codes "GetRecordStatus"
+    ∷ (codes "GetSceneTransitionList"
+    ∷ (codes "GetStudioModeEnabled"
+    ∷ (codes "GetVersion"
+    ∷ (codes "PauseRecord"
+    ∷ (codes "ResumeRecord"
+    ∷ (codes "SetCurrentSceneTransition"
+    ∷ (codes "SetCurrentSceneTransitionDuration"
+    ∷ (codes "SetStudioModeEnabled"
+    ∷ (codes "Sleep"
+    ∷ (codes "StartRecord"
+    ∷ (codes "StopRecord"
+    ∷ (codes "ToggleRecord"
+    ∷ (codes "TriggerStudioModeTransition" ∷ []))))))))))))))))
+
+-- all of them
+abbrev pub all_requests : List (List ℕ)
+all_requests = codes "BroadcastCustomEvent"
+    ∷ (codes "CallVendorRequest"
+    ∷ (codes "CreateInput"
+    ∷ (codes "CreateScene"
+    ∷ (codes "CreateSceneItem"
+    ∷ (codes "DuplicateSceneItem"
+    ∷ (codes "GetCurrentPreviewScene"
+    ∷ (codes "GetCurrentProgramScene"
+    ∷ (codes "GetCurrentSceneTransition"
+    ∷ (codes "GetGroupList"
+    ∷ (codes "GetGroupSceneItemList"
+    ∷ (codes "GetInputAudioSyncOffset"
+    ∷ (codes "GetInputAudioTracks"
+    ∷ (codes "GetInputKindList"
+    ∷ (codes "GetInputList"
+    ∷ (codes "GetInputMute"
+    ∷ (codes "GetInputSettings"
+    ∷ (codes "GetInputVolume"
+    ∷ (codes "GetRecordStatus"
+    ∷ (codes "GetSceneItemBlendMode"
+    ∷ (codes "GetSceneItemEnabled"
+    ∷ (codes "GetSceneItemId"
+    ∷ (codes "GetSceneItemIndex"
+    ∷ (codes "GetSceneItemList"
+    ∷ (codes "GetSceneItemLocked"
+    ∷ (codes "GetSceneItemTransform"
+    ∷ (codes "GetSceneList"
+    ∷ (codes "GetSceneTransitionList"
+    ∷ (codes "GetSourceActive"
+    ∷ (codes "GetStudioModeEnabled"
+    ∷ (codes "GetVersion"
+    ∷ (codes "PauseRecord"
+    ∷ (codes "RemoveInput"
+    ∷ (codes "RemoveScene"
+    ∷ (codes "RemoveSceneItem"
+    ∷ (codes "ResumeRecord"
+    ∷ (codes "SetCurrentPreviewScene"
+    ∷ (codes "SetCurrentProgramScene"
+    ∷ (codes "SetCurrentSceneTransition"
+    ∷ (codes "SetCurrentSceneTransitionDuration"
+    ∷ (codes "SetInputAudioSyncOffset"
+    ∷ (codes "SetInputAudioTracks"
+    ∷ (codes "SetInputMute"
+    ∷ (codes "SetInputName"
+    ∷ (codes "SetInputSettings"
+    ∷ (codes "SetInputVolume"
+    ∷ (codes "SetSceneItemBlendMode"
+    ∷ (codes "SetSceneItemEnabled"
+    ∷ (codes "SetSceneItemIndex"
+    ∷ (codes "SetSceneItemLocked"
+    ∷ (codes "SetSceneItemTransform"
+    ∷ (codes "SetSceneName"
+    ∷ (codes "SetStudioModeEnabled"
+    ∷ (codes "Sleep"
+    ∷ (codes "StartRecord"
+    ∷ (codes "StopRecord"
+    ∷ (codes "ToggleInputMute"
+    ∷ (codes "ToggleRecord"
+    ∷ (codes "TriggerStudioModeTransition" ∷ []))))))))))))))))))))))))))))))))))))))))))))))))))))))))))

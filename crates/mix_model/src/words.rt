@@ -1,0 +1,17 @@
+//! Small words that events carry.
+
+/// How the program changes.
+#[derive(Clone, Copy, Debug, PartialEq, Eq)]
+pub enum Transition {
+    Cut,
+    Fade,
+}
+
+/// What happened to the recording.
+#[derive(Clone, Copy, Debug, PartialEq, Eq)]
+pub enum RecordWord {
+    Started,
+    Stopped,
+    Paused,
+    Resumed,
+}
