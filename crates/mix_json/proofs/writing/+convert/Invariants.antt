@@ -1,0 +1,13 @@
+use Rattle.std.proofs.Common.{◌≡◌, take, map, false}
+use Rattle.serde_json.specs.View.{view, items_view, members_view}
+use Rattle.serde_json.specs.Written.{items_have_float, members_have_float}
+use Rattle.mix_json.specs.Writing.{data_of, members_data}
+use Rattle.mix_json.proofs.writing.+convert.Given as goal
+
+-- the items so far
+abbrev pub invariant-convert_items-loop-item : goal.invariant-convert_items-loop-item
+invariant-convert_items-loop-item l = (map view l.values.items ≡ map data_of (take l.item-index l.items)) × (items_have_float (items_view l.values.items) ≡ false)
+
+-- the members so far
+abbrev pub invariant-convert_members-loop-member : goal.invariant-convert_members-loop-member
+invariant-convert_members-loop-member l = (members_view l.map.entries ≡ members_data (take l.member-index l.members)) × (members_have_float (members_view l.map.entries) ≡ false)

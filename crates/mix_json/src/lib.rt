@@ -1,0 +1,17 @@
+//! JSON texts: reading them, writing them, and the fields of a request.
+#![tactic(auto)]
+
+mod fields;
+mod reading;
+#[cfg(test)]
+mod tests;
+mod tree;
+mod writing;
+
+pub use fields::{
+    in_range, need_bool, need_int, need_kept, need_obj, need_text, opt_bool, opt_int, opt_obj,
+    opt_text,
+};
+pub use reading::{JsonFault, read};
+pub use tree::{Fields, Items};
+pub use writing::write;
