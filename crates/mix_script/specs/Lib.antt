@@ -1,0 +1,6 @@
+pub mod Escapes
+pub mod Hexadecimal
+pub mod Laws
+pub mod Lines
+pub mod Numbers
+pub mod Reading

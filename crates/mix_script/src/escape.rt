@@ -1,0 +1,121 @@
+//! A text within a line: a line feed would end the line, so it's written with a backslash.
+ghost use Rattle.std.specs.Prelude.{◌≡◌, ◌++◌, IfOk, OnOk, string_bytes};
+ghost use Rattle.std.specs.List.{list_any};
+ghost use Rattle.mix_script.specs.Escapes.{escaped, escaped_byte, unescaped, is_special, meaning};
+ghost use Rattle.mix_script.specs.Reading.{Reads};
+ghost use Rattle.mix_script.specs.Lines.{text_of, or_text, in_utf8};
+
+use crate::BadLine;
+use mix_base::{Bytes, ListOf, NoMemory, Text};
+use std::alloc::Global;
+
+/// Whether a byte of a text is written as two.
+pub fn has_special(text: &[u8]) -> bool
+    ensures { result ≡ list_any is_special text.now }
+{
+    text.iter().any(|b| *b == b'\\' || *b == b'\n')
+}
+
+/// A text as it stands in a line.
+pub fn escape(alloc: Global, text: &str) -> Result<String, NoMemory>
+    ensures { IfOk result (λ written. string_bytes written ≡ escaped text.now) }
+{
+    let bytes = escape_bytes(alloc, text.as_bytes())?;
+    match String::from_utf8(bytes) {
+        Ok(written) => Ok(written),
+        Err(_) => unreachable!(),
+    }
+}
+
+fn escape_bytes(alloc: Global, text: &[u8]) -> Result<Vec<u8>, NoMemory>
+    ensures { IfOk result (λ written. written.items ≡ escaped text.now) }
+{
+    let mut written = Vec::with_capacity(alloc, text.len())?;
+    for byte in text {
+        push_escaped(&mut written, *byte)?;
+    }
+    Ok(written)
+}
+
+fn push_escaped(written: &mut Vec<u8>, byte: u8) -> Result<(), NoMemory>
+    ensures { OnOk result (written.new.items ≡ written.old.items ++ escaped_byte byte) }
+{
+    match byte {
+        b'\\' => written.extend_from_slice(b"\\\\".as_slice())?,
+        b'\n' => written.extend_from_slice(b"\\n".as_slice())?,
+        _ => written.push(byte)?,
+    }
+    Ok(())
+}
+
+/// The text that an escaped one stands for, in UTF-8. One without a backslash is copied once.
+pub fn read_text(alloc: Global, written: &[u8]) -> Result<Text, BadLine>
+    ensures { Reads (text_of written.now) result }
+{
+    if !has_special(written) {
+        return copy_text(alloc, written);
+    }
+    match unescape(alloc, written) {
+        Ok(bytes) => take_text(bytes),
+        Err(fault) => Err(fault),
+    }
+}
+
+#[tactic(auto, using(mix_base::proofs::NameLemmas::utf8_tests))]
+fn copy_text(alloc: Global, bytes: &[u8]) -> Result<Text, BadLine>
+    ensures { Reads (in_utf8 (Some bytes.now)) result }
+{
+    match str::from_utf8(bytes) {
+        Ok(text) => Ok(Text::from_str(alloc, text)?),
+        Err(_) => Err(BadLine::Text),
+    }
+}
+
+#[tactic(auto, using(mix_base::proofs::NameLemmas::utf8_tests))]
+fn take_text(bytes: Bytes) -> Result<Text, BadLine>
+    ensures { Reads (in_utf8 (Some bytes)) result }
+{
+    match String::from_utf8(bytes.into_vec()) {
+        Ok(text) => Ok(Text::from_string(text)?),
+        Err(_) => Err(BadLine::Text),
+    }
+}
+
+/// What a backslash and a byte stand for.
+fn meaning(byte: u8) -> Option<u8>
+    ensures { result ≡ meaning byte }
+{
+    match byte {
+        b'\\' => Some(b'\\'),
+        b'n' => Some(b'\n'),
+        _ => None,
+    }
+}
+
+/// The bytes that escaped ones stand for.
+fn unescape(alloc: Global, written: &[u8]) -> Result<Bytes, BadLine>
+    ensures { Reads (or_text (unescaped written.now)) result }
+{
+    let mut bytes = Vec::with_capacity(alloc, written.len())?;
+    let mut marked = false;
+    for byte in written {
+        if marked {
+            let Some(meant) = meaning(*byte) else {
+                return Err(BadLine::Text);
+            };
+            bytes.push(meant)?;
+            marked = false;
+        } else if *byte == b'\\' {
+            marked = true;
+        } else if *byte == b'\n' {
+            return Err(BadLine::Text);
+        } else {
+            bytes.push(*byte)?;
+        }
+    }
+    if marked {
+        Err(BadLine::Text)
+    } else {
+        Ok(ListOf::from_vec(bytes))
+    }
+}

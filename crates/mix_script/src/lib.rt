@@ -1,0 +1,19 @@
+//! The lines of a script, which are a history's actions in writing.
+#![tactic(auto)]
+
+mod bad_line;
+mod digits;
+mod escape;
+mod laws;
+mod length;
+mod number;
+mod read;
+#[cfg(test)]
+mod tests;
+mod write;
+
+pub use bad_line::BadLine;
+pub use laws::lines_and_actions_stand_one_to_one;
+pub use length::line_length;
+pub use read::read_line;
+pub use write::line_of;

@@ -1,0 +1,70 @@
+//! From an action to its line.
+ghost use Rattle.std.specs.Prelude.{◌≡◌, ◌++◌, IfOk, codes, decimal, string_bytes};
+ghost use Rattle.mix_script.specs.Lines.{line_text, arrival_text, said_text};
+
+use crate::digits::is_unset;
+use crate::escape::{escape, has_special};
+use mix_base::{Bytes, Bytes32, ConnId, NoMemory, Text};
+use mix_model::{Action, Message};
+use std::alloc::Global;
+
+/// The line of an action, without a line feed at its end.
+pub fn line_of(alloc: Global, action: &Action) -> Result<Text, NoMemory>
+    ensures value { IfOk result (λ line. line ≡ line_text action.now) }
+{
+    let line = match action {
+        Action::Arrive { challenge } => arrival_line(alloc, challenge)?,
+        Action::Hear {
+            conn,
+            message: Message::Text(text),
+        } => text_line(alloc, *conn, text)?,
+        Action::Hear {
+            conn,
+            message: Message::Binary(bytes),
+        } => bytes_line(alloc, *conn, bytes)?,
+        Action::Poll { conn } => format!(in alloc; "?c{}", conn.0)?,
+        Action::BatchNext { conn } => format!(in alloc; "*c{}", conn.0)?,
+        Action::Leave { conn } => format!(in alloc; "-c{}", conn.0)?,
+        Action::VideoTick => format!(in alloc; "v")?,
+        Action::AudioTick => format!(in alloc; "a")?,
+        Action::FrameDone { number } => format!(in alloc; "f {number}")?,
+        Action::Destroy => format!(in alloc; "d")?,
+    };
+    Text::from_string(line)
+}
+
+fn arrival_line(alloc: Global, challenge: &Bytes32) -> Result<String, NoMemory>
+    ensures { IfOk result (λ line. string_bytes line ≡ arrival_text challenge.now) }
+{
+    if is_unset(&challenge.0) {
+        return Ok(format!(in alloc; "+")?);
+    }
+    let digits = hex::encode(alloc, challenge.0.as_slice())?;
+    Ok(format!(in alloc; "+ {digits}")?)
+}
+
+fn text_line(alloc: Global, conn: ConnId, text: &Text) -> Result<String, NoMemory>
+    ensures { IfOk result (λ line. string_bytes line ≡ said_text conn (Message.Text text.now)) }
+{
+    if has_special(text.bytes()) {
+        let written = escape(alloc, text.as_str())?;
+        written_line(alloc, conn, written.as_str())
+    } else {
+        written_line(alloc, conn, text.as_str())
+    }
+}
+
+/// The line of a text that has its escapes.
+fn written_line(alloc: Global, conn: ConnId, written: &str) -> Result<String, NoMemory>
+    ensures { IfOk result (λ line. string_bytes line
+        ≡ codes "<c" ++ (decimal conn ++ (codes " " ++ written.now))) }
+{
+    Ok(format!(in alloc; "<c{} {written}", conn.0)?)
+}
+
+fn bytes_line(alloc: Global, conn: ConnId, bytes: &Bytes) -> Result<String, NoMemory>
+    ensures { IfOk result (λ line. string_bytes line ≡ said_text conn (Message.Binary bytes.now)) }
+{
+    let digits = hex::encode(alloc, bytes.as_slice())?;
+    Ok(format!(in alloc; "#c{} {digits}", conn.0)?)
+}
