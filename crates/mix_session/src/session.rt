@@ -1,0 +1,182 @@
+//! What a connection has been told and has named, and what its messages come to.
+ghost use Rattle.std.specs.Prelude.{◌≡◌, None, Some, IfOk, IfErr, option_map};
+ghost use Rattle.std.specs.Option.{option_copied};
+ghost use Rattle.mix_session.specs.Hear.{hear, message_of, of_kind, text_heard};
+ghost use Rattle.mix_session.specs.SessionState.{hello, mask_after, secret_of};
+ghost use Rattle.mix_session.specs.Table.{Answers};
+
+use crate::close::{NOT_DECODED, UNKNOWN_OP};
+use crate::fault::Fault;
+use crate::fields::{object_at, whole_at};
+use crate::heard::Heard;
+use crate::identify::{identify, reidentify};
+use crate::login::answer_for;
+use crate::op::Op;
+use crate::request::{batch, request};
+use crate::secret::Secret;
+use mix_base::{Bytes32, Json, JsonObj, NoMemory, Text};
+use mix_json::JsonFault;
+use mix_model::{Login, Message, Said};
+use std::alloc::Global;
+use std::marker::Model;
+
+/// The most bytes of a text.
+const MOST_BYTES: usize = 1_048_576;
+
+/// What a connection has been told and has named. It may say nothing else before it is identified:
+///
+/// ```text
+/// start --Hello--> unidentified --Identify--> identified --Reidentify--> identified
+/// ```
+#[derive(Drop)]
+pub struct Session {
+    secret: Option<Secret>,
+    challenge: Bytes32,
+    /// The answer of a login, made once.
+    expected: Option<Text>,
+    mask: Option<u32>,
+}
+
+impl Model for Session {
+    ghost use Rattle.std.specs.Prelude.{◌≡◌, option_map};
+    ghost use Rattle.mix_session.specs.Hear.{expected_of};
+    ghost use Rattle.mix_session.specs.SessionState.{SessionState, secret_of};
+
+    ghost Value = { SessionState };
+
+    ghost view = { λ session. record {
+      secret = option_map secret_of session.secret;
+      challenge = session.challenge;
+      mask = session.mask;
+    } };
+
+    ghost invariant = { λ session.
+        session.expected ≡ expected_of (option_map secret_of session.secret) session.challenge };
+}
+
+impl Session {
+    /// Begins a session, and says Hello. The challenge is to be one that nobody foresees.
+    pub fn start(
+        alloc: Global,
+        secret: Option<&Secret>,
+        challenge: &Bytes32,
+    ) -> Result<(Session, Said), NoMemory>
+        ensures secret { IfOk result
+            (λ made. made.0.secret ≡ option_map secret_of (option_copied secret.entry)) }
+        ensures challenge { IfOk result (λ made. made.0.challenge ≡ challenge.now) }
+        ensures mask { IfOk result (λ made. made.0.mask ≡ None) }
+        ensures reply { IfOk result (λ made.
+            made.1 ≡ hello (option_map secret_of (option_copied secret.entry)) challenge.now) }
+    {
+        match secret {
+            None => Ok((
+                Session {
+                    secret: None,
+                    challenge: *challenge,
+                    expected: None,
+                    mask: None,
+                },
+                Said::Hello { login: None },
+            )),
+            Some(secret) => {
+                let expected = answer_for(alloc, &secret.password, &secret.salt, challenge)?;
+                let login = Login {
+                    salt: secret.salt,
+                    challenge: *challenge,
+                };
+                Ok((
+                    Session {
+                        secret: Some(secret.share()?),
+                        challenge: *challenge,
+                        expected: Some(expected),
+                        mask: None,
+                    },
+                    Said::Hello { login: Some(login) },
+                ))
+            }
+        }
+    }
+
+    /// What a message comes to. The session stays as it is until the outcome is taken.
+    pub fn hear(&self, alloc: Global, message: &Message) -> Result<Heard, NoMemory>
+        ensures reply { IfOk result (λ heard.
+            heard ≡ hear self.now.secret self.now.challenge self.now.mask message.now) }
+    {
+        let Message::Text(text) = message else {
+            return Ok(Heard::Close(NOT_DECODED));
+        };
+        match heard_text(alloc, self.expected.as_ref(), self.mask, text) {
+            Ok(heard) => Ok(heard),
+            Err(Fault::Close(code)) => Ok(Heard::Close(code)),
+            Err(Fault::NoMemory) => Err(NoMemory),
+        }
+    }
+
+    /// Takes what a message came to: what is said at once brings its mask.
+    pub fn take(&mut self, heard: &Heard)
+        ensures state { self.new ≡ record self.old { mask = mask_after heard.now self.old.mask } }
+    {
+        if let Heard::Say { mask, .. } = heard {
+            self.mask = Some(*mask);
+        }
+    }
+
+    /// The events that the connection is told, once it is identified.
+    pub fn mask(&self) -> Option<u32>
+        ensures value { result ≡ self.now.mask }
+    {
+        self.mask
+    }
+}
+
+/// The fields of a message.
+#[tactic(auto, unfolding(crate::specs::Hear::message_of))]
+fn message(alloc: Global, text: &Text) -> Result<JsonObj, Fault>
+    ensures value { Answers result (message_of text.now) }
+{
+    match mix_json::read(alloc, text.bytes()) {
+        Ok(Json::Obj(fields)) => Ok(fields),
+        Ok(_) => Err(Fault::Close(NOT_DECODED)),
+        Err(JsonFault::NotJson) => Err(Fault::Close(NOT_DECODED)),
+        Err(JsonFault::NoMemory) => Err(Fault::NoMemory),
+    }
+}
+
+/// What a message of its kind comes to.
+fn of_kind(
+    alloc: Global,
+    op: Op,
+    expected: Option<&Text>,
+    mask: Option<u32>,
+    fields: JsonObj,
+) -> Result<Heard, Fault>
+    ensures value { Answers result (of_kind op (option_copied expected.entry) mask fields) }
+{
+    match op {
+        Op::Identify => Ok(identify(expected, mask, &fields)?),
+        Op::Reidentify => Ok(reidentify(mask, &fields)?),
+        Op::Request => Ok(Heard::Ask(request(fields)?)),
+        Op::RequestBatch => Ok(Heard::Batch(batch(alloc, fields)?)),
+    }
+}
+
+/// What a text comes to.
+#[tactic(auto, unfolding(crate::specs::Hear::text_heard))]
+fn heard_text(
+    alloc: Global,
+    expected: Option<&Text>,
+    mask: Option<u32>,
+    text: &Text,
+) -> Result<Heard, Fault>
+    ensures value { Answers result (text_heard (option_copied expected.entry) mask text.now) }
+{
+    if text.bytes().len() > MOST_BYTES {
+        return Err(Fault::Close(NOT_DECODED));
+    }
+    let message = message(alloc, text)?;
+    let number = whole_at(&message, "op")?;
+    let fields = object_at(message, "d")?;
+    let op = Op::of_number(number).ok_or(UNKNOWN_OP)?;
+    op.in_turn(mask)?;
+    of_kind(alloc, op, expected, mask, fields)
+}
