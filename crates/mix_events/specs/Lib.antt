@@ -1,0 +1,9 @@
+pub mod Statuses
+pub mod Trees
+pub mod SceneEvents
+pub mod InputEvents
+pub mod ItemEvents
+pub mod OtherEvents
+pub mod Events
+pub mod Texts
+pub mod Sayable
