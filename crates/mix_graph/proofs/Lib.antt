@@ -1,0 +1,16 @@
+-- flags beside rows, put on test by test
+pub mod FlagLemmas
+-- the flags that a walk puts on
+pub mod WalkLemmas
+-- the flags that the walks from the channels and the preview put on
+pub mod RootLemmas
+-- what the settling by flags leaves
+pub mod SettleLemmas
+-- names, causes, and room for what is created
+pub mod CreateLemmas
+-- the flags and marks that a graph keeps beside its rows
+pub mod KeptLemmas
+-- one row changed, and no other
+pub mod ChangeLemmas
+-- why a new item is refused, and the rows with it
+pub mod ItemLemmas

@@ -1,0 +1,4 @@
+pub mod Refused
+pub mod Searched
+pub mod Settling
+pub mod RowEdits

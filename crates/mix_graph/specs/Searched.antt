@@ -1,0 +1,82 @@
+-- Sources as the rows of a graph alone, and a flag for each row.
+use Rattle.std.specs.Prelude.{ℕ, Bool, List, [], ◌∷◌, ◌||◌, ◌+◌, ◌≤◌, ◌<◌, not, find}
+use Rattle.std.specs.Prelude.{take, ◌-◌, slice_set, slice_index_or}
+use Rattle.mix_model.specs.Items.{with_item}
+use Rattle.mix_model.specs.declared.item.ItemSpec.{ItemSpec}
+use Rattle.std.specs.Prelude.{length, filter, nat_le, nat_lt, true, ◌≡◌, Option, option_and_then}
+use Rattle.std.specs.List.{list_any, list_all}
+use Rattle.std.specs.Option.{option_map_or}
+use Rattle.mix_model.specs.declared.row.Row.{Row}
+use Rattle.mix_model.specs.Sets.{has, is_distinct}
+use Rattle.mix_model.specs.Rows.{is_at, serials_of, children_of, visible_children_of}
+use Rattle.mix_model.specs.declared.fault.GraphFault.{GraphFault}
+use Rattle.mix_model.specs.declared.fault.GraphFault.TheVariants.{Depth, TooMany}
+use Rattle.mix_model.specs.Causes.{Cause, above, first_cause, item_count}
+use Rattle.mix_model.specs.Ranks.{inside_of, rank_by, weight_by}
+use Rattle.mix_model.specs.Walks.{leads, most_steps}
+
+-- the next rows of a walk: the children that visible items show
+abbrev pub next_in : List Row → ℕ → List ℕ
+next_in rows x = option_map_or visible_children_of (find (is_at x) rows) []
+
+-- the next rows of a chain: the children that items show, visible or not
+abbrev pub chained_in : List Row → ℕ → List ℕ
+chained_in rows x = option_map_or children_of (find (is_at x) rows) []
+
+-- a walk leads to x from one of the roots
+unfoldable pub reached_in : List Row → List ℕ → ℕ → Bool
+reached_in rows roots x = list_any (λ root. leads (next_in rows) most_steps root x) roots
+
+-- the children of a scene or group
+abbrev pub inside_in : List Row → ℕ → Option (List ℕ)
+inside_in rows x = option_and_then inside_of (find (is_at x) rows)
+
+-- a flag for each row, put on also where the row's serial passes the test
+abbrev pub flagged_also : (ℕ → Bool) → List Row → List Bool → List Bool
+flagged_also test [] flags = flags
+flagged_also test (row ∷ rows) [] = []
+flagged_also test (row ∷ rows) (flag ∷ flags) =
+    (flag || test row.serial) ∷ flagged_also test rows flags
+
+-- the dying list has room for every row that isn't in it
+abbrev pub HasRoom : List Row → List ℕ → ℕ → Type 0
+HasRoom rows dying room = length dying + length (filter (λ r. not (has r.serial dying)) rows) ≤ room
+
+-- what a graph keeps of its rows: room for the dying list, fewer rows in it and beside it than serials
+-- were given, serials that differ and are below the next one, and no more items than there may be
+pub record InOrder (rows : List Row) (dying : List ℕ) (places next : ℕ) : Type 0 where
+  pub room : HasRoom rows dying places
+  pub few : HasRoom rows dying next
+  pub drawn : next < 4294967296
+  pub items : item_count rows ≤ 2048
+  pub differ : is_distinct (serials_of rows) ≡ true
+  pub below : list_all (λ x. nat_lt x next) (serials_of rows) ≡ true
+
+-- the rank of a row, among these rows
+unfoldable pub rank_in : List Row → ℕ → ℕ
+rank_in rows x = rank_by (inside_in rows) 17 x
+
+-- the weight of a row, among these rows
+unfoldable pub weight_in : List Row → ℕ → ℕ
+weight_in rows x = weight_by (inside_in rows) 17 x
+
+-- what these rows would be refused for
+abbrev pub causes_in : List Row → List Cause
+causes_in rows =
+    (not (list_all (λ r. nat_le (rank_in rows r.serial) 16) rows), Depth)
+    ∷ (above 512 (length rows) ∷ (above 2048 (item_count rows)
+    ∷ ((not (list_all (λ r. nat_le (weight_in rows r.serial) 4096) rows), TooMany 4096) ∷ [])))
+
+unfoldable pub late_cause_in : List Row → Option GraphFault
+late_cause_in rows = first_cause (causes_in rows)
+
+-- the item on top is taken away, and its id back
+abbrev pub popped : Row → Row
+popped row = record row {
+  items = take (length row.items - 1) row.items;
+  next_item = row.next_item - 1;
+}
+
+-- the item on top of the row at this place
+abbrev pub with_item_on : List Row → ℕ → ℕ → ItemSpec → Row → List Row
+with_item_on rows at child spec d = slice_set rows at (with_item child spec (slice_index_or rows at d))

@@ -1,0 +1,199 @@
+//! New items.
+ghost use Rattle.std.specs.Prelude.{◌≡◌, ◌<◌, ◌-◌, IfOk, OnOk, OnErr, length, take, slice_set};
+ghost use Rattle.std.specs.Prelude.{slice_index_or};
+ghost use Rattle.std.specs.List.{HoldsAt};
+ghost use Rattle.mix_model.specs.declared.row.Row.{Row};
+ghost use Rattle.mix_model.specs.Rows.{has_items};
+ghost use Rattle.mix_model.specs.Lookups.{row_passes, row_of};
+ghost use Rattle.mix_model.specs.Walks.{is_chained};
+ghost use Rattle.mix_model.specs.Causes.{item_early, item_cause};
+ghost use Rattle.mix_model.specs.Edits.{item_added};
+ghost use Rattle.std.specs.Prelude.{IfSome};
+ghost use Rattle.mix_model.specs.Items.{new_item, with_item};
+ghost use Rattle.mix_graph.specs.Refused.{RefusedBy};
+ghost use Rattle.mix_graph.specs.Searched.{late_cause_in, popped, with_item_on};
+
+use crate::refused::late_cause;
+use crate::row_edit::items_taken;
+use crate::search::{chains_to, has_items, place_of};
+use crate::sources::Sources;
+use mix_base::{ItemId, ListOf, NoMemory, Serial};
+use mix_model::{GraphFault, Item, ItemSpec, Row};
+use std::alloc::Global;
+
+#[tactic(auto, unfolding(mix_model::specs::Items::new_item))]
+fn new_item(id: ItemId, child: Serial, spec: &ItemSpec) -> Item
+    ensures { result ≡ new_item id child spec.now }
+{
+    Item {
+        id,
+        child,
+        enabled: spec.enabled,
+        locked: spec.locked,
+        place: spec.place,
+        blend: spec.blend,
+    }
+}
+
+/// Puts an item on top of a row.
+#[tactic(auto, unfolding(mix_model::specs::Items::with_item))]
+fn push_item(
+    alloc: Global,
+    row: &mut Row,
+    child: Serial,
+    spec: &ItemSpec,
+) -> Result<ItemId, NoMemory>
+    requires drawn { row.old.next_item < 4294967295 }
+    ensures reply { IfOk result (λ id. id ≡ row.old.next_item) }
+    ensures ok { OnOk result (row.new ≡ with_item child spec.now row.old) }
+    ensures err { OnErr result (row.new ≡ row.old) }
+{
+    let id = ItemId(row.next_item);
+    let mut items = items_taken(alloc, row);
+    match items.push(new_item(id, child, spec)) {
+        Ok(()) => {
+            row.items = ListOf::from_vec(items);
+            row.next_item += 1;
+            Ok(id)
+        }
+        Err(_) => {
+            row.items = ListOf::from_vec(items);
+            Err(NoMemory)
+        }
+    }
+}
+
+/// Takes the item on top away, and its id back.
+fn pop_item(alloc: Global, row: &mut Row)
+    requires { 0 < row.old.next_item }
+    ensures { row.new ≡ record row.old {
+      items = take (length row.old.items - 1) row.old.items;
+      next_item = row.old.next_item - 1;
+    } }
+{
+    let mut items = items_taken(alloc, row);
+    let _ = items.pop();
+    row.items = ListOf::from_vec(items);
+    row.next_item -= 1;
+}
+
+/// Puts an item on top of the row at an index.
+fn push_item_at(
+    alloc: Global,
+    rows: &mut Vec<Row>,
+    at: usize,
+    child: Serial,
+    spec: &ItemSpec,
+) -> Result<ItemId, NoMemory>
+    requires within { at < length rows.old.items }
+    requires drawn { HoldsAt (λ r. r.next_item < 4294967295) rows.old.items at }
+    ensures reply { IfOk result (λ id. HoldsAt (λ r. id ≡ r.next_item) rows.old.items at) }
+    ensures ok { OnOk result ((d : Row) →
+        rows.new.items ≡ with_item_on rows.old.items at child spec.now d) }
+    ensures err { OnErr result (rows.new.items ≡ rows.old.items) }
+{
+    let row = &mut rows[at];
+    push_item(alloc, row, child, spec)
+}
+
+/// Takes the item on top of the row at an index away.
+fn pop_item_at(alloc: Global, rows: &mut Vec<Row>, at: usize)
+    requires within { at < length rows.old.items }
+    requires drawn { HoldsAt (λ r. 0 < r.next_item) rows.old.items at }
+    ensures { (d : Row) → rows.new.items
+        ≡ slice_set rows.old.items at (popped (slice_index_or rows.old.items at d)) }
+{
+    let row = &mut rows[at];
+    pop_item(alloc, row);
+}
+
+/// Puts an item on top of the row at an index, unless the rows are then refused.
+pub fn try_item(
+    alloc: Global,
+    rows: &mut Vec<Row>,
+    at: usize,
+    child: Serial,
+    spec: &ItemSpec,
+) -> Result<ItemId, GraphFault>
+    requires within { at < length rows.old.items }
+    requires drawn { HoldsAt (λ r. r.next_item < 4294967295) rows.old.items at }
+    ensures reply { IfOk result (λ id. HoldsAt (λ r. id ≡ r.next_item) rows.old.items at) }
+    ensures ok { OnOk result ((d : Row) →
+        rows.new.items ≡ with_item_on rows.old.items at child spec.now d) }
+    ensures err { OnErr result (rows.new.items ≡ rows.old.items) }
+    ensures cause { (d : Row) → RefusedBy
+        (late_cause_in (with_item_on rows.old.items at child spec.now d)) result }
+{
+    match push_item_at(alloc, rows, at, child, spec) {
+        Err(_) => Err(GraphFault::NoMemory),
+        Ok(id) => match late_cause(rows.as_slice()) {
+            None => Ok(id),
+            Some(fault) => {
+                pop_item_at(alloc, rows, at);
+                Err(fault)
+            }
+        },
+    }
+}
+
+impl Sources {
+    /// Why an item is refused before any row is looked at as it would be.
+    #[tactic(auto, unfolding(mix_model::specs::Causes::item_early))]
+    fn item_early(&self, parent: Serial, child: Serial) -> Option<GraphFault>
+        ensures { result ≡ item_early self.now parent child }
+    {
+        if !self.is_named(parent) || !self.is_named(child) {
+            return Some(GraphFault::NotFound);
+        }
+        if !self.is_parent(parent) {
+            return Some(GraphFault::WrongKind);
+        }
+        None
+    }
+
+    /// Whether the row of this serial is a scene or group.
+    fn is_parent(&self, serial: Serial) -> bool
+        ensures { result ≡ row_passes self.now (λ r. has_items r.kind) serial }
+    {
+        match self.row(serial) {
+            Some(row) => has_items(row.kind),
+            None => false,
+        }
+    }
+
+    /// Whether a chain of items leads from one row to the other, or they are one.
+    fn is_chained(&self, from: Serial, to: Serial) -> bool
+        ensures { result ≡ is_chained self.now from to }
+    {
+        chains_to(self.rows.as_slice(), 17, from, to)
+    }
+
+    /// Puts an item on top of a scene or group.
+    pub fn add_item(
+        &mut self,
+        alloc: Global,
+        parent: Serial,
+        child: Serial,
+        spec: &ItemSpec,
+    ) -> Result<ItemId, GraphFault>
+        requires drawn { IfSome (row_of self.old parent) (λ r. r.next_item < 4294967295) }
+        ensures reply { IfOk result (λ id. IfSome (row_of self.old parent)
+            (λ r. id ≡ r.next_item)) }
+        ensures ok { OnOk result (self.new ≡ item_added parent child spec.now self.old) }
+        ensures err { OnErr result (self.new ≡ self.old) }
+        ensures refused { RefusedBy (item_cause self.old parent child
+            (item_added parent child spec.now self.old)) result }
+    {
+        let early = self.item_early(parent, child);
+        if let Some(fault) = early {
+            return Err(fault);
+        }
+        if self.is_chained(child, parent) {
+            return Err(GraphFault::Cycle);
+        }
+        let Some(at) = place_of(self.rows.as_slice(), parent) else {
+            unreachable!()
+        };
+        try_item(alloc, &mut self.rows, at, child, spec)
+    }
+}

@@ -1,0 +1,81 @@
+//! What a graph is asked.
+ghost use Rattle.std.specs.Prelude.{◌≡◌, ◌<◌, IsSomeAnd, MatchOption, None, option_map, slice_get};
+ghost use Rattle.std.specs.Prelude.{slice_index_or, length};
+ghost use Rattle.mix_model.specs.Lookups.{row_of, items_of};
+ghost use Rattle.mix_model.specs.Holders.{is_named, find_named};
+ghost use Rattle.mix_model.specs.Views.{IsView};
+
+use crate::Graph;
+use crate::sources::Channel;
+use mix_base::{Serial, Text};
+use mix_model::{Item, RowView};
+
+impl Graph {
+    /// The named row of this name.
+    pub fn find(&self, name: &Text) -> Option<Serial>
+        ensures reply { result ≡ option_map (λ r. r.serial) (find_named self.now.present name.now) }
+    {
+        match self.sources.find_named(name.bytes()) {
+            Some(row) => Some(row.serial),
+            None => None,
+        }
+    }
+
+    /// The row of this serial, named or not.
+    pub fn row(&self, serial: Serial) -> Option<RowView<'_>>
+        ensures reply { MatchOption result (row_of self.now.present serial ≡ None)
+            (λ view. IsSomeAnd (row_of self.now.present serial) (λ row. IsView row view)) }
+    {
+        self.sources.view(serial)
+    }
+
+    /// Whether the serial is that of a named row.
+    pub fn named(&self, serial: Serial) -> bool
+        ensures reply { result ≡ is_named self.now.present serial }
+    {
+        self.sources.is_named(serial)
+    }
+
+    /// A scene of the registry, by its index from 0.
+    pub fn scene_at(&self, index: u32) -> Option<Serial>
+        ensures reply { result ≡ slice_get self.now.present.scenes index }
+    {
+        self.sources.scene_at(index)
+    }
+
+    /// What a channel below 64 names, with both ends of a fade.
+    pub fn channel(&self, channel: u32) -> Channel
+        requires below { channel < 64 }
+        ensures reply { result ≡ slice_index_or self.now.present.channels channel result }
+    {
+        self.sources.channel(channel)
+    }
+
+    /// The serial of the next source.
+    pub fn next_serial(&self) -> Serial
+        ensures reply { result ≡ self.now.present.next_serial }
+    {
+        self.sources.next_serial()
+    }
+
+    /// How many rows die.
+    pub fn dying(&self) -> u32
+        ensures reply { result ≡ length self.now.present.dying }
+    {
+        self.sources.dying()
+    }
+
+    /// An input of the registry, by its index from 0.
+    pub fn input_at(&self, index: u32) -> Option<Serial>
+        ensures reply { result ≡ slice_get self.now.present.inputs index }
+    {
+        self.sources.input_at(index)
+    }
+
+    /// An item of a row, by its index from the bottom, counted from 0.
+    pub fn item_at(&self, parent: Serial, index: u32) -> Option<Item>
+        ensures reply { result ≡ slice_get (items_of self.now.present parent) index }
+    {
+        self.sources.item_at(parent, index)
+    }
+}

@@ -1,0 +1,131 @@
+//! New sources.
+ghost use Rattle.std.specs.Prelude.{◌≡◌, ◌<◌, ◌≤◌, ◌+◌, ◌-◌, [], ◌∷◌, ◌++◌, IfOk, OnOk, OnErr, MatchResult, length, take, vec_capacity, vec_len};
+ghost use Rattle.mix_model.specs.Holders.{has_name};
+ghost use Rattle.mix_model.specs.Rows.{new_row};
+ghost use Rattle.mix_model.specs.Values.{new_sound};
+ghost use Rattle.mix_model.specs.Edits.{scene_created};
+ghost use Rattle.mix_model.specs.Causes.{scene_cause};
+ghost use Rattle.mix_graph.specs.Refused.{RefusedBy};
+ghost use Rattle.mix_graph.specs.Searched.{late_cause_in};
+
+use crate::refused::late_cause;
+use crate::sources::Sources;
+use mix_base::{ListOf, Name, NoMemory, Serial};
+use mix_model::{GraphFault, Kind, Row, Settings, Sound};
+use std::alloc::Global;
+
+/// A new source.
+#[tactic(auto, unfolding(mix_model::specs::Rows::new_row, mix_model::specs::Values::new_sound))]
+fn new_row(alloc: Global, serial: Serial, name: Name, kind: Kind, settings: Settings) -> Row
+    ensures { result ≡ new_row serial name kind settings new_sound }
+{
+    Row {
+        serial,
+        name,
+        kind,
+        settings,
+        sound: Sound {
+            volume: 1000,
+            muted: false,
+            tracks: 63,
+            offset: 0,
+        },
+        since: 0,
+        items: ListOf::from_vec(Vec::new(alloc)),
+        next_item: 1,
+    }
+}
+
+/// Takes room for one row more, and for its place in the dying list.
+pub fn reserve_row(rows: &mut Vec<Row>, dying: &mut Vec<Serial>) -> Result<(), NoMemory>
+    ensures rows { rows.new.items ≡ rows.old.items }
+    ensures dying { dying.new.items ≡ dying.old.items }
+    ensures room { OnOk result (vec_len rows.new < vec_capacity rows.new) }
+    ensures dying_room { OnOk result
+        (vec_len dying.new + (vec_len rows.new + 1) ≤ vec_capacity dying.new) }
+    ensures keeps { vec_capacity dying.old ≤ vec_capacity dying.new }
+{
+    rows.reserve(1)?;
+    let places = rows.len() + 1;
+    dying.reserve(places)?;
+    Ok(())
+}
+
+/// Takes room for one row more of the registry.
+pub fn reserve_source(
+    rows: &mut Vec<Row>,
+    dying: &mut Vec<Serial>,
+    list: &mut Vec<Serial>,
+) -> Result<(), NoMemory>
+    ensures rows { rows.new.items ≡ rows.old.items }
+    ensures dying { dying.new.items ≡ dying.old.items }
+    ensures list { list.new.items ≡ list.old.items }
+    ensures room { OnOk result (vec_len rows.new < vec_capacity rows.new) }
+    ensures dying_room { OnOk result
+        (vec_len dying.new + (vec_len rows.new + 1) ≤ vec_capacity dying.new) }
+    ensures list_room { OnOk result (vec_len list.new < vec_capacity list.new) }
+    ensures keeps { vec_capacity dying.old ≤ vec_capacity dying.new }
+{
+    list.reserve(1)?;
+    reserve_row(rows, dying)?;
+    Ok(())
+}
+
+/// Takes the last row away.
+fn drop_last(rows: &mut Vec<Row>)
+    ensures rows { rows.new.items ≡ take (vec_len rows.old - 1) rows.old.items }
+{
+    let _ = rows.pop();
+}
+
+/// Puts a row at the end, unless the rows are then refused.
+pub fn push_row(rows: &mut Vec<Row>, row: Row) -> Result<(), GraphFault>
+    requires room { vec_len rows.old < vec_capacity rows.old }
+    ensures ok { OnOk result (rows.new.items ≡ rows.old.items ++ row ∷ []) }
+    ensures err { OnErr result (rows.new.items ≡ rows.old.items) }
+    ensures cause { MatchResult result
+        (λ _. late_cause_in (rows.old.items ++ row ∷ []) ≡ None)
+        (λ fault. late_cause_in (rows.old.items ++ row ∷ []) ≡ Some fault) }
+{
+    rows.push_reserved(row);
+    if let Some(fault) = late_cause(rows.as_slice()) {
+        drop_last(rows);
+        return Err(fault);
+    }
+    Ok(())
+}
+
+impl Sources {
+    pub fn has_name(&self, name: &[u8]) -> bool
+        ensures { result ≡ has_name self.now name.now }
+    {
+        self.find_named(name).is_some()
+    }
+
+    /// A scene, last in the registry.
+    pub fn create_scene(&mut self, alloc: Global, name: Name) -> Result<Serial, GraphFault>
+        requires drawn { self.old.next_serial < 4294967295 }
+        ensures reply { IfOk result (λ serial. serial ≡ self.old.next_serial) }
+        ensures ok { OnOk result (self.new ≡ scene_created name self.old) }
+        ensures err { OnErr result (self.new ≡ self.old) }
+        ensures refused { RefusedBy
+            (scene_cause self.old name (scene_created name self.old)) result }
+    {
+        if self.has_name(name.bytes()) {
+            return Err(GraphFault::Exists);
+        }
+        let serial = Serial(self.next_serial);
+        let Ok(()) = reserve_source(&mut self.rows, &mut self.dying, &mut self.scenes) else {
+            return Err(GraphFault::NoMemory);
+        };
+        let row = new_row(alloc, serial, name, Kind::Scene, Settings::None);
+        match push_row(&mut self.rows, row) {
+            Err(fault) => Err(fault),
+            Ok(()) => {
+                self.scenes.push_reserved(serial);
+                self.next_serial += 1;
+                Ok(serial)
+            }
+        }
+    }
+}

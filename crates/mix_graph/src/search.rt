@@ -1,0 +1,181 @@
+//! Searches in lists of serials and of rows.
+ghost use Rattle.std.specs.Prelude.{◌≡◌, ◌==◌, ◌≤◌, ◌<◌, ◌+◌, find, length, option_copied, option_to_list, MatchOption};
+ghost use Rattle.std.specs.Prelude.{None, IfSome, IfNone};
+ghost use Rattle.std.specs.List.{HoldsAt};
+ghost use Rattle.mix_model.specs.Sets.{has};
+ghost use Rattle.mix_model.specs.Rows.{is_at, has_items};
+ghost use Rattle.mix_model.specs.Ranks.{rank_by, weight_by};
+ghost use Rattle.mix_model.specs.Walks.{leads};
+ghost use Rattle.mix_graph.specs.Searched.{next_in, inside_in, flagged_also, chained_in};
+
+use mix_base::Serial;
+use mix_model::{Kind, Row};
+
+/// Whether the serial is in the list.
+pub fn has(serials: &[Serial], serial: Serial) -> bool
+    ensures { result ≡ has serial serials.now }
+{
+    serials.iter().any(|s| s.0 == serial.0)
+}
+
+/// Whether the option is this serial.
+pub fn is_some_of(option: Option<Serial>, serial: Serial) -> bool
+    ensures { result ≡ has serial (option_to_list option) }
+{
+    match option {
+        Some(s) => s.0 == serial.0,
+        None => false,
+    }
+}
+
+/// The row of this serial.
+pub fn row_at(rows: &[Row], serial: Serial) -> Option<&Row>
+    ensures { option_copied result ≡ find (is_at serial) rows.now }
+{
+    rows.iter().find(|row| row.serial.0 == serial.0)
+}
+
+/// Puts on the flags of the rows of this serial.
+pub fn flag_row(rows: &[Row], serial: Serial, flags: &mut [bool])
+    requires { length flags.old ≡ length rows.now }
+    ensures { flags.new ≡ flagged_also (λ x. serial == x) rows.now flags.old }
+{
+    for index in 0..flags.len() {
+        let here = rows[index].serial;
+        flags[index] = flags[index] || serial.0 == here.0;
+    }
+}
+
+/// Puts on the flags of the rows to which a walk of at most so many steps leads.
+pub fn flag_walked(rows: &[Row], rounds: u32, from: Serial, flags: &mut [bool])
+    requires { length flags.old ≡ length rows.now }
+    ensures { flags.new ≡ flagged_also (leads (next_in rows.now) rounds from) rows.now flags.old }
+{
+    flag_row(rows, from, flags);
+    if rounds == 0 {
+        return;
+    }
+    let Some(row) = row_at(rows, from) else {
+        return;
+    };
+    for item in row.items.as_slice() {
+        if item.enabled {
+            flag_walked(rows, rounds - 1, item.child, flags);
+        }
+    }
+}
+
+/// The rank of a row, or the number of rounds where it is no lower.
+pub fn rank_from(rows: &[Row], rounds: u32, of: Serial) -> u32
+    ensures value { result ≡ rank_by (inside_in rows.now) rounds of }
+    ensures bound { result ≤ rounds }
+{
+    if rounds == 0 {
+        return 0;
+    }
+    let Some(row) = row_at(rows, of) else {
+        return 0;
+    };
+    if !has_items(row.kind) {
+        return 0;
+    }
+    let mut most = 0;
+    for item in row.items.as_slice() {
+        let rank = rank_from(rows, rounds - 1, item.child);
+        if most < rank {
+            most = rank;
+        }
+    }
+    most + 1
+}
+
+/// What is left of an allowance after the weight of a row, where it is no lower.
+pub fn weighed(rows: &[Row], rounds: u32, of: Serial, most: u32) -> Option<u32>
+    ensures { MatchOption result (most < weight_by (inside_in rows.now) rounds of)
+        (λ left. left + weight_by (inside_in rows.now) rounds of ≡ most) }
+{
+    if rounds == 0 {
+        return Some(most);
+    }
+    if most == 0 {
+        return None;
+    }
+    let mut left = most - 1;
+    let Some(row) = row_at(rows, of) else {
+        return Some(left);
+    };
+    if !has_items(row.kind) {
+        return Some(left);
+    }
+    for item in row.items.as_slice() {
+        match weighed(rows, rounds - 1, item.child, left) {
+            Some(rest) => left = rest,
+            None => return None,
+        }
+    }
+    Some(left)
+}
+
+/// Whether this kind of source has items.
+pub fn has_items(kind: Kind) -> bool
+    ensures { result ≡ has_items kind }
+{
+    matches!(kind, Kind::Scene | Kind::Group)
+}
+
+/// Where the first row of this serial is.
+pub fn place_of(rows: &[Row], serial: Serial) -> Option<usize>
+    ensures within { IfSome result (λ at. at < length rows.now) }
+    ensures at { IfSome result (λ at. HoldsAt (λ r. r.serial ≡ serial) rows.now at) }
+    ensures none { IfNone result (find (is_at serial) rows.now ≡ None) }
+{
+    for index in 0..rows.len() {
+        let here = rows[index].serial;
+        if here.0 == serial.0 {
+            return Some(index);
+        }
+    }
+    None
+}
+
+/// Whether a walk of at most so many steps leads from one row to the other.
+pub fn leads_to(rows: &[Row], rounds: u32, from: Serial, to: Serial) -> bool
+    ensures { result ≡ leads (next_in rows.now) rounds from to }
+{
+    if from.0 == to.0 {
+        return true;
+    }
+    if rounds == 0 {
+        return false;
+    }
+    let Some(row) = row_at(rows, from) else {
+        return false;
+    };
+    for item in row.items.as_slice() {
+        if item.enabled && leads_to(rows, rounds - 1, item.child, to) {
+            return true;
+        }
+    }
+    false
+}
+
+/// Whether a chain of at most so many items leads from one row to the other.
+pub fn chains_to(rows: &[Row], rounds: u32, from: Serial, to: Serial) -> bool
+    ensures { result ≡ leads (chained_in rows.now) rounds from to }
+{
+    if from.0 == to.0 {
+        return true;
+    }
+    if rounds == 0 {
+        return false;
+    }
+    let Some(row) = row_at(rows, from) else {
+        return false;
+    };
+    for item in row.items.as_slice() {
+        if chains_to(rows, rounds - 1, item.child, to) {
+            return true;
+        }
+    }
+    false
+}
