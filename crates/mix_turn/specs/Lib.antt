@@ -1,0 +1,9 @@
+pub mod Entries
+pub mod Turns
+pub mod Known
+pub mod Parts
+pub mod Views
+pub mod Rule
+pub mod Steps
+pub mod Faults
+pub mod Roll
