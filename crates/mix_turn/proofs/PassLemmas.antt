@@ -18,11 +18,11 @@ use Rattle.mix_turn.proofs.StepLemmas.{spared_lines, Closes}
 module _ {V E S : Type 0} where
   -- a look at the count of numbers tells that the pass has seen all entries that it answers for
   pub told_entries : (me new : Hand V E S) (n : ℕ) → Counts me n new → me.0.spare ≡ None → All (HasAllOf new.0.seen) (own_line new.0 ∷ new.0.joined)
-  told_entries me new n told empty = subst (λ (m : Hand V E S). All (HasAllOf m.0.seen) (own_line m.0 ∷ m.0.joined)) (sym told.same) (spared_lines (HasAllOf me.0.seen) me.0 empty told.entries)
+  told_entries me new n told empty = subst (λ (m : Hand V E S). All (HasAllOf m.0.seen) (own_line m.0 ∷ m.0.joined)) (sym told.after) (spared_lines (HasAllOf me.0.seen) me.0 empty told.entries)
 
   -- and that it knows a number above all of them
   pub told_below : (me new : Hand V E S) (n : ℕ) → Counts me n new → me.0.spare ≡ None → All (λ line. line.pass < new.0.above) (own_line new.0 ∷ new.0.joined)
-  told_below me new n told empty = subst (λ (m : Hand V E S). All (λ (line : PassEntries E). line.pass < m.0.above) (own_line m.0 ∷ m.0.joined)) (sym told.same)
+  told_below me new n told empty = subst (λ (m : Hand V E S). All (λ (line : PassEntries E). line.pass < m.0.above) (own_line m.0 ∷ m.0.joined)) (sym told.after)
       (spared_lines (λ (line : PassEntries E). line.pass < me.0.above) me.0 empty told.below)
 
   -- a number from the one above on is none that the pass answers for

@@ -14,13 +14,14 @@ use Rattle.mix_turn.specs.declared.entered.PassEntries.{PassEntries}
 use Rattle.mix_turn.specs.declared.view.View.{View}
 use Rattle.mix_turn.specs.Entries.{entries_of, HasAllOf}
 use Rattle.mix_turn.specs.Known.{greater}
+use Rattle.mix_turn.specs.Marks.{with_look, with_try, with_count, with_take}
 use Rattle.mix_turn.specs.Parts.{all_parts}
-use Rattle.mix_turn.specs.Views.{IsLive, spare_lines, own_line, other_lines, held_lines, first_view, looking, turning, rested, sparing, splitter_view, child_view, both_views, spent_view}
+use Rattle.mix_turn.specs.Views.{IsLive, spare_lines, own_line, other_lines, held_lines, first_view, looking, trying, counting, finding, turning, rested, sparing, splitter_view, child_view, both_views, spent_view}
 use Rattle.mix_turn.specs.Rule.{Slots, Knows, Free, Held, Between, Rule}
 use Rattle.mix_turn.specs.Steps.{Hand, looked, counted, spared, advanced, tried}
 use Rattle.mix_turn.proofs.HistoryLemmas.{prefix_nothing, squeezed, none_before, all_nothing, all_cons, all_head, all_rest, all_append, all_map, longest}
 use Rattle.mix_turn.proofs.NumberLemmas.{alone, has_all_lines, all_counted, lengths_are, length_in, length_of, numbers_same, numbers_spared, numbers_split, numbers_joined, numbers_first}
-use Rattle.mix_turn.proofs.RuleLemmas.{at_length, same_at, each_after, each_more, turn_idle, turn_more, idle_changes, nothing_changes, takes_turn, ahead_of, GoesOn, gives_back}
+use Rattle.mix_turn.proofs.RuleLemmas.{at_length, same_at, each_after, each_more, turn_idle, turn_more, idle_changes, marks_change, takes_turn, ahead_of, GoesOn, gives_back}
 
 lt_of_ne : (a b : ℕ) → a ≤ b → b ≢ a → a < b
 lt_of_ne a b l ne = dite (ℕ_discrete b a) (λ e. absurd (ne e)) (λ _. omega arith)
@@ -108,9 +109,9 @@ module _ {V E S : Type 0} (journal : V → List (Entered E)) (misses : V → ℕ
       × looked (step slots 2 0 0 none) me (get_or ws 2 0) (w, carried_after me.1 a)
 
   pub looks : (slots id : ℕ) (me : M) → me.0.turn ≡ false → Allows Law slots id me 2 (λ n. n) (looked (step slots 2 0 0 none) me)
-  looks slots id me idle s r _ at _ = let c = r.between in let w : View E S = looking r.serving me.0 in
+  looks slots id me idle s r _ at _ =
       subst (Looks slots id me s) (sym r.words) (
-        w,
+        looking r.serving me.0,
         keeps,
         tt,
         record {
@@ -118,21 +119,9 @@ module _ {V E S : Type 0} (journal : V → List (Entered E)) (misses : V → ℕ
           ticket = r.ticket;
           serving = r.serving;
           words = refl;
-          between = idle_changes journal misses start_of full_of start r.made r.made r.ticket r.serving s.homes s.views id me.0 w c (le_refl r.made) at idle idle
-              (λ live. let o = c.knows id me.0 at live in record {
-                starts = o.starts;
-                seen = o.seen;
-                shorter = o.shorter;
-                entries = o.entries;
-                seen_entries = o.seen_entries;
-                looked = le_refl r.serving;
-                above = o.above;
-                below = o.below;
-                refused = o.refused;
-              })
-              (numbers_same r.made s.views id me.0 w at refl refl refl (λ p. refl) c.numbers);
+          between = marks_change journal misses start_of full_of start r.made r.ticket r.serving s.homes s.views id me.0 (with_look r.serving me.0.marks) at idle r.between (λ _. le_refl r.serving);
         },
-        refl,
+        (refl, refl),
       )
 
   -- a look at the count of numbers
@@ -141,10 +130,10 @@ module _ {V E S : Type 0} (journal : V → List (Entered E)) (misses : V → ℕ
       × Law (record { words = set ws 0 (get_or ws 0 0); homes = homes_after s.homes me.1 a; views = set s.views id w })
       × counted (step slots 0 0 0 none) me (get_or ws 0 0) (w, carried_after me.1 a)
 
-  pub counts : (slots id : ℕ) (me : M) → IsLive me.0 → Allows Law slots id me 0 (λ n. n) (counted (step slots 0 0 0 none) me)
-  counts slots id me live s r _ at _ = let c = r.between in let o = c.knows id me.0 at live in
+  pub counts : (slots id : ℕ) (me : M) → IsLive me.0 → me.0.turn ≡ false → Allows Law slots id me 0 (λ n. n) (counted (step slots 0 0 0 none) me)
+  counts slots id me live idle s r _ at _ = let c = r.between in let o = c.knows id me.0 at live in
       subst (Looks0 slots id me s) (sym r.words) (
-        me.0,
+        counting r.made me.0,
         keeps,
         tt,
         record {
@@ -152,9 +141,9 @@ module _ {V E S : Type 0} (journal : V → List (Entered E)) (misses : V → ℕ
           ticket = r.ticket;
           serving = r.serving;
           words = refl;
-          between = nothing_changes journal misses start_of full_of start r.made r.ticket r.serving s.homes s.views id me.0 at c;
+          between = marks_change journal misses start_of full_of start r.made r.ticket r.serving s.homes s.views id me.0 (with_count r.made me.0.marks) at idle c (λ _. o.looked);
         },
-        record { same = refl; few = c.numbers.few; shorter = o.shorter; entries = o.seen_entries; below = o.below },
+        (refl, record { after = refl; few = c.numbers.few; shorter = o.shorter; entries = o.seen_entries; below = o.below }),
       )
 
   -- a try for a ticket
@@ -163,14 +152,14 @@ module _ {V E S : Type 0} (journal : V → List (Entered E)) (misses : V → ℕ
       × Law (record { words = set ws 1 (either (eqb (get_or ws 1 0) old) (old + 1) (get_or ws 1 0)); homes = homes_after s.homes me.1 a; views = set s.views id w })
       × tried journal misses start_of full_of (step slots 1 old (old + 1) none) me (get_or ws 1 0) (w, carried_after me.1 a)
 
-  pub tries : (slots id old : ℕ) (me : M) → me.1 ≡ [] → IsLive me.0 → me.0.looked ≡ old → old < 9223372036854775808
+  pub tries : (slots id old : ℕ) (me : M) → me.1 ≡ [] → IsLive me.0 → me.0.turn ≡ false → me.0.marks.serving ≡ old → old < 9223372036854775808
       → Allows Law slots id me 1 (λ n. either (eqb n old) (old + 1) n) (tried journal misses start_of full_of (step slots 1 old (old + 1) none) me)
-  tries slots id old me empty live looked_is small s r _ at _ =
-      let t : ℕ = r.ticket in let n : ℕ = r.serving in let c = r.between in let o = c.knows id me.0 at live in let l : me.0.looked ≤ n = o.looked in
+  tries slots id old me empty live idle looked_is small s r _ at _ =
+      let t : ℕ = r.ticket in let n : ℕ = r.serving in let c = r.between in let o = c.knows id me.0 at live in let l : me.0.marks.serving ≤ n = o.looked in
       subst (Tries slots id old me s) (sym r.words) (dite (ℕ_discrete t old)
       (λ hit. ⊎_elim
       (λ (f : Free journal misses start_of full_of t n s.homes s.views c.history c.full start).
-      let x : V = f.value in let w : View E S = turning (journal x) (full_of x) (misses x) me.0 in
+      let x : V = f.value in let w : View E S = turning (journal x) (full_of x) (misses x) (trying t me.0) in
       let len : length (journal x) ≡ length c.history = ap length f.history_is in let served = f.served in let even = f.even in (
         w,
         takes 0 (Some x),
@@ -181,9 +170,10 @@ module _ {V E S : Type 0} (journal : V → List (Entered E)) (misses : V → ℕ
           serving = n;
           words = ap (λ b. r.made ∷ either b (old + 1) t ∷ n ∷ []) (eq-eqb t old hit);
           between = subst (λ h. Middle r.made (old + 1) n (set h 0 none) (set s.views id w)) (sym f.slot)
-              (takes_turn journal misses start_of full_of start r.made t n (old + 1) s.homes s.views id me.0 c f at live (omega arith) (omega arith));
+              (takes_turn journal misses start_of full_of start r.made t n (old + 1) s.homes s.views id me.0 (with_try t me.0.marks) c f at live o.looked (omega arith) (omega arith));
         },
         (
+          refl,
           (λ _. record {
             value = x;
             after = ap (λ l. (w, (0, Some x) ∷ l)) empty;
@@ -200,7 +190,7 @@ module _ {V E S : Type 0} (journal : V → List (Entered E)) (misses : V → ℕ
       (λ (h : Held journal misses start_of full_of t n s.homes s.views c.history c.full). let up = h.ahead in absurd (omega arith))
       c.turn)
       (λ miss. (
-        me.0,
+        trying t me.0,
         keeps,
         tt,
         record {
@@ -208,9 +198,9 @@ module _ {V E S : Type 0} (journal : V → List (Entered E)) (misses : V → ℕ
           ticket = t;
           serving = n;
           words = ap (λ b. r.made ∷ either b (old + 1) t ∷ n ∷ []) (ne_eqb t old miss);
-          between = nothing_changes journal misses start_of full_of start r.made t n s.homes s.views id me.0 at c;
+          between = marks_change journal misses start_of full_of start r.made t n s.homes s.views id me.0 (with_try t me.0.marks) at idle c (λ _. o.looked);
         },
-        ((λ hit. absurd (miss hit)), λ _. (lt_of_ne old t (ahead_of journal misses start_of full_of start r.made t n s.homes s.views old c (omega arith)) miss, refl)),
+        (refl, (λ hit. absurd (miss hit)), λ _. (lt_of_ne old t (ahead_of journal misses start_of full_of start r.made t n s.homes s.views old c (omega arith)) miss, refl)),
       )))
 
   -- the next ticket is served
@@ -254,9 +244,9 @@ module _ {V E S : Type 0} (journal : V → List (Entered E)) (misses : V → ℕ
       × spared (step slots 0 k (k + 1) none) me (get_or ws 0 0) (w, carried_after me.1 a)
 
   spares_hit : (q t n : ℕ) (slots : Slots V) (views : List (View E S)) (id : ℕ) (v : View E S) (c : Middle q t n slots views) → q < 4294967295 → get_elem? views id ≡ some v → IsLive v → v.turn ≡ false → v.spare ≡ None
-      → Middle (q + 1) t n slots (set views id (sparing q v))
+      → Middle (q + 1) t n slots (set views id (sparing q (finding q v)))
   spares_hit q t n slots views id v c small at live idle empty =
-      let o = c.knows id v at live in let w : View E S = sparing q v in
+      let o = c.knows id v at live in let w : View E S = sparing q (finding q v) in
       let spare : PassEntries E = record { pass = q; entries = [] } in
       let with_spare : (P : PassEntries E → Type 0) → P spare → All P (held_lines v) → All P (held_lines w) = λ P new all. let old = spared_lines P v empty all in
       all_cons P (own_line v) (spare ∷ v.joined) (all_head P (own_line v) v.joined old) (all_cons P spare v.joined new (all_rest P (own_line v) v.joined old)) in
@@ -275,14 +265,14 @@ module _ {V E S : Type 0} (journal : V → List (Entered E)) (misses : V → ℕ
         below = with_spare (under (q + 1)) (omega arith) (all_map (under v.above) (under (q + 1)) (held_lines v) (λ line l. omega arith) o.below);
         refused = o.refused;
       })
-      (numbers_spared q views id v small at live empty c.numbers)
+      (numbers_spared q (with_take q v.marks) views id v small at live empty c.numbers)
 
   pub spares : (slots id k : ℕ) (me : M) → me.1 ≡ [] → IsLive me.0 → me.0.turn ≡ false → me.0.spare ≡ None → k < 4294967295
       → Allows Law slots id me 0 (λ n. either (eqb n k) (k + 1) n) (spared (step slots 0 k (k + 1) none) me)
   spares slots id k me empty live off no_spare small s r _ at _ =
       let c = r.between in let o = c.knows id me.0 at live in
       subst (TakesNumber slots id k me s) (sym r.words) (dite (ℕ_discrete r.made k)
-      (λ hit. let w : View E S = sparing k me.0 in let above = o.above in (
+      (λ hit. let w : View E S = sparing k (finding k me.0) in let above = o.above in (
         w,
         keeps,
         tt,
@@ -291,12 +281,13 @@ module _ {V E S : Type 0} (journal : V → List (Entered E)) (misses : V → ℕ
           ticket = r.ticket;
           serving = r.serving;
           words = ap (λ b. either b (k + 1) r.made ∷ r.ticket ∷ r.serving ∷ []) (eq-eqb r.made k hit);
-          between = subst (λ q. Middle (q + 1) r.ticket r.serving s.homes (set s.views id (sparing q me.0))) hit
+          between = subst (λ q. Middle (q + 1) r.ticket r.serving s.homes (set s.views id (sparing q (finding q me.0)))) hit
               (spares_hit r.made r.ticket r.serving s.homes s.views id me.0 c (omega arith) at live off no_spare);
         },
         (
+          refl,
           (λ e. record {
-            after = ap (λ (j : ℕ). (sparing j me.0, me.1)) (sym e);
+            after = ap (λ (j : ℕ). (sparing j (finding j me.0), me.1)) (sym e);
             above = omega arith;
             unborn = none_before r.made me.0.seen c.history o.seen (c.unborn r.made (le_refl r.made));
           }),
@@ -304,7 +295,7 @@ module _ {V E S : Type 0} (journal : V → List (Entered E)) (misses : V → ℕ
         ),
       ))
       (λ miss. (
-        me.0,
+        finding r.made me.0,
         keeps,
         tt,
         record {
@@ -312,9 +303,9 @@ module _ {V E S : Type 0} (journal : V → List (Entered E)) (misses : V → ℕ
           ticket = r.ticket;
           serving = r.serving;
           words = ap (λ b. either b (k + 1) r.made ∷ r.ticket ∷ r.serving ∷ []) (ne_eqb r.made k miss);
-          between = nothing_changes journal misses start_of full_of start r.made r.ticket r.serving s.homes s.views id me.0 at c;
+          between = marks_change journal misses start_of full_of start r.made r.ticket r.serving s.homes s.views id me.0 (with_take r.made me.0.marks) at off c (λ _. o.looked);
         },
-        ((λ hit. absurd (miss hit)), λ _. refl),
+        (refl, (λ hit. absurd (miss hit)), λ _. refl),
       )))
 
   -- a number in a pass's hand goes to a new pass

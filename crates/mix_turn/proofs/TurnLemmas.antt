@@ -8,10 +8,12 @@ use Rattle.mix_turn.specs.declared.entered.Entered.{Entered}
 use Rattle.mix_turn.specs.declared.entered.PassEntries.{PassEntries}
 use Rattle.mix_turn.specs.declared.turn.Turn.{Turn}
 use Rattle.mix_turn.specs.declared.turn.Turn.TheVariants.{Done, Missed}
+use Rattle.mix_turn.specs.declared.view.Marks.{Marks}
 use Rattle.mix_turn.specs.declared.view.View.{View}
 use Rattle.mix_turn.specs.Entries.{pass_no, entered, entries_of, numbered_from, HasAllOf}
+use Rattle.mix_turn.specs.Marks.{with_look, with_try, IsWon}
 use Rattle.mix_turn.specs.Turns.{OnDone, OnMissed, done_entries, done_turns, missed_turns, is_full}
-use Rattle.mix_turn.specs.Views.{IsLive, entry_in, own_line, other_lines, held_lines, looking, turning, rested}
+use Rattle.mix_turn.specs.Views.{IsLive, entry_in, own_line, other_lines, held_lines, marked, looking, trying, turning, rested}
 use Rattle.mix_turn.specs.Steps.{Hand, Wins, Rests, Takes, IsAtRest}
 use Rattle.mix_turn.proofs.HistoryLemmas.{entries_of-own, entries_of-else, numbered-snoc, map-numbered, length-numbered, entries_of-short, prefix_on, all_head, all_rest, all_cons}
 use Rattle.mix_turn.proofs.RuleLemmas.{GoesOn}
@@ -24,6 +26,11 @@ or_right false b e = e
 or_left : (a b : Bool) → a ≡ true → (a || b) ≡ true
 or_left true b e = refl
 or_left false b e = absurd (false≢true e)
+
+-- a try that found the number looked at has won
+won_by : (k j : ℕ) (old new : Marks) → j ≡ k → new ≡ with_try j (with_look k old) → IsWon old new
+won_by k j old new hit e =
+    let same : k ≡ new.serving = sym (ap (λ (m : Marks). m.serving) e) in subst (λ n. new ≡ with_try n (with_look n old)) same (e ∙ ap (λ n. with_try n (with_look k old)) hit)
 
 module _ {E : Type 0} where
   -- the entry of a done turn stands behind the pass's own
@@ -90,14 +97,15 @@ module _ {V E S : Type 0} (journal : V → List (Entered E)) (misses : V → ℕ
   some_is x y e = cc
 
   -- what the whole turn is to the view that took it
-  pub took : {A : Type 0} (says : S → List (Entered E) → Entered E → Turn A → Type 0) (v u w : View E S) (x y : V) (p : PassNo) (e : E) (r : Turn A) (k : ℕ) → u ≡ turning (journal x) (full_of x) (misses x) (looking k v)
+  pub took : {A : Type 0} (says : S → List (Entered E) → Entered E → Turn A → Type 0) (v u w : View E S) (x y : V) (p : PassNo) (e : E) (r : Turn A) (m : Marks) → u ≡ turning (journal x) (full_of x) (misses x) (marked m v)
       → w ≡ rested (journal y) (full_of y) u → v.start ≡ Some (start_of x) → IsPrefix v.seen (journal x) → All (HasAllOf (journal x)) (held_lines v) → (v.full ≡ true → full_of x ≡ true)
       → length (journal x) + misses x < 9223372036854775808 → journal y ≡ journal x ++ done_entries r (entered p e) → full_of y ≡ (full_of x || is_full r) → says (start_of x) (journal x) (entered p e) r
       → All (HasAllOf w.seen) (held_lines w) → Takes says v (entered p e) r w
-  took says v u w x y p e r k turns rests starts seen entries kept small more full agrees all_seen = record {
+  took says v u w x y p e r m turns rests starts seen entries kept small more full agrees all_seen = record {
     found = journal x;
     full = full_of y;
-    after = rests ∙ (ap (rested (journal y) (full_of y)) turns ∙ ap (λ l. rested l (full_of y) v) more);
+    marks = m;
+    after = rests ∙ (ap (rested (journal y) (full_of y)) turns ∙ ap (λ l. rested l (full_of y) (marked m v)) more);
     seen = seen;
     entries = entries;
     kept = λ t. full ∙ or_left (full_of x) (is_full r) (kept t);
@@ -114,22 +122,24 @@ module _ {V E S : Type 0} (journal : V → List (Entered E)) (misses : V → ℕ
     pub turn : now.0.turn ≡ true
     pub goes_on : GoesOn journal misses start_of full_of now.0 y
     pub after : (m : Hand V E S) → Rests journal full_of y now m → Takes says old.0 (entered p e) r m.0
+    pub won : (m : Hand V E S) → Rests journal full_of y now m → IsWon old.0.marks m.0.marks
 
-  -- m0 is the seat before the look, m1 after it, m2 after the try, m3 after the value was taken, m4 after it was put back
-  pub ready : {A : Type 0} (says : S → List (Entered E) → Entered E → Turn A → Type 0) (m0 m1 m2 m3 m4 : Hand V E S) (k : ℕ) (p : PassNo) (e : E) (r : Turn A) (x y : V) (z : Option V)
-      → m1 ≡ (looking k m0.0, m0.1) → Wins journal misses start_of full_of m1 m2 → m2.1 ≡ (0, z) ∷ rest m2.1 → z ≡ Some x → m3 ≡ (m2.0, (0, None) ∷ rest m2.1) → m4 ≡ (m3.0, (0, Some y) ∷ rest m3.1)
+  -- k is the serving number looked at, and j the ticket found; m0 is the seat before the look, m1 after it, m2 after the try, m3 after the value was taken, m4 after it was put back
+  pub ready : {A : Type 0} (says : S → List (Entered E) → Entered E → Turn A → Type 0) (m0 m1 m2 m3 m4 : Hand V E S) (k j : ℕ) (p : PassNo) (e : E) (r : Turn A) (x y : V) (z : Option V)
+      → m1 ≡ (looking k m0.0, m0.1) → j ≡ k → Wins journal misses start_of full_of (trying j m1.0, m1.1) m2 → m2.1 ≡ (0, z) ∷ rest m2.1 → z ≡ Some x → m3 ≡ (m2.0, (0, None) ∷ rest m2.1) → m4 ≡ (m3.0, (0, Some y) ∷ rest m3.1)
       → IsLive m0.0 → IsAtRest m0 p.pass p.number → says (start_of x) (journal x) (entered p e) r → journal y ≡ journal x ++ done_entries r (entered p e) → misses y ≡ misses x + missed_turns r
       → start_of y ≡ start_of x → full_of y ≡ (full_of x || is_full r) → Ready says m0 m4 p e r y
-  ready says m0 m1 m2 m3 m4 k p e r x y z look win out is taken back live rests agrees more missed same full =
-      let v : View E S = looking k m0.0 in
-      let seated : m1.0 ≡ v = ap (λ (m : Hand V E S). m.0) look in
+  ready says m0 m1 m2 m3 m4 k j p e r x y z look hit win out is taken back live rests agrees more missed same full =
+      let v : View E S = trying j (looking k m0.0) in
+      let u1 : View E S = trying j m1.0 in
+      let seated : u1 ≡ v = ap (λ (m : Hand V E S). trying j m.0) look in
       let one : win.value ≡ x = found_is m2.1 win.value x z (ap (λ (m : Hand V E S). m.1) win.after) out is in
       let now : m4 ≡ (m2.0, (0, Some y) ∷ []) = held_after m2 m3 m4 (Some y) (Some win.value) (ap (λ (m : Hand V E S). m.1) win.after) taken back in
       let turns : m4.0 ≡ turning (journal x) (full_of x) (misses x) v =
       ap (λ (m : Hand V E S). m.0) now ∙ (ap (λ (m : Hand V E S). m.0) win.after ∙ (λ i. turning (journal (one i)) (full_of (one i)) (misses (one i)) (seated i))) in
       let starts : v.start ≡ Some (start_of x) = ap (λ (u : View E S). u.start) (sym seated) ∙ (win.start ∙ ap (λ (u : V). Some (start_of u)) one) in
-      let entries : All (HasAllOf (journal x)) (held_lines v) = subst (λ (u : View E S). All (HasAllOf (journal x)) (held_lines u)) seated (subst (λ (u : V). All (HasAllOf (journal u)) (held_lines m1.0)) one win.entries) in
-      let seen : IsPrefix v.seen (journal x) = subst (λ (u : View E S). IsPrefix u.seen (journal x)) seated (subst (λ (u : V). IsPrefix m1.0.seen (journal u)) one win.seen) in
+      let entries : All (HasAllOf (journal x)) (held_lines v) = subst (λ (u : View E S). All (HasAllOf (journal x)) (held_lines u)) seated (subst (λ (u : V). All (HasAllOf (journal u)) (held_lines u1)) one win.entries) in
+      let seen : IsPrefix v.seen (journal x) = subst (λ (u : View E S). IsPrefix u.seen (journal x)) seated (subst (λ (u : V). IsPrefix u1.seen (journal u)) one win.seen) in
       let kept : v.full ≡ true → full_of x ≡ true = λ t. ap full_of (sym one) ∙ win.full (ap (λ (u : View E S). u.full) seated ∙ t) in
       let small : length (journal x) + misses x < 9223372036854775808 = subst (λ (u : V). length (journal u) + misses u < 9223372036854775808) one win.small in
       record {
@@ -137,13 +147,14 @@ module _ {V E S : Type 0} (journal : V → List (Entered E)) (misses : V → ℕ
         live = ap (λ (u : View E S). is_some u.start) turns ∙ live;
         turn = ap (λ (u : View E S). u.turn) turns;
         goes_on = goes v m4.0 x y p e r turns rests.number_is rests.count_is starts entries more missed same full;
-        after = λ m rested_is. took says m0.0 m4.0 m.0 x y p e r k turns (ap (λ (n : Hand V E S). n.0) rested_is.after) starts seen entries kept small more full agrees rested_is.entries;
+        after = λ m rested_is. took says m0.0 m4.0 m.0 x y p e r v.marks turns (ap (λ (n : Hand V E S). n.0) rested_is.after) starts seen entries kept small more full agrees rested_is.entries;
+        won = λ m rested_is. won_by k j m0.0.marks m.0.marks hit (ap (λ (n : Hand V E S). n.0.marks) rested_is.after ∙ ap (λ (u : View E S). u.marks) turns);
       }
 
 module _ {V E S : Type 0} where
-  -- a look leaves a pass at rest
-  pub rests_looking : (me me' : Hand V E S) (k p n : ℕ) → me'.0 ≡ looking k me.0 → me'.1 ≡ [] → IsAtRest me p n → IsAtRest me' p n
-  rests_looking me me' k p n view empty rests = record {
+  -- a pass whose marks alone changed is at rest as before
+  pub rests_marked : (me me' : Hand V E S) (m : Marks) (p n : ℕ) → me'.0 ≡ marked m me.0 → me'.1 ≡ [] → IsAtRest me p n → IsAtRest me' p n
+  rests_marked me me' m p n view empty rests = record {
     empty = empty;
     idle = ap (λ (z : View E S). z.turn) view ∙ rests.idle;
     spent = ap (λ (z : View E S). z.spare) view ∙ rests.spent;
@@ -153,24 +164,25 @@ module _ {V E S : Type 0} where
     below = subst (λ (z : View E S). All (λ (line : PassEntries E). line.pass < z.above) (held_lines z)) (sym view) rests.below;
   }
 
-  -- a pass that waits: it has looked at some number, and nothing else of it has changed
+  -- a pass that waits: it has looked and tried, and nothing else of it has changed
   pub record Waits (old now : Hand V E S) : Type 0 where
-    pub looked_at : ℕ
-    pub view : now.0 ≡ looking looked_at old.0
+    pub marks : Marks
+    pub view : now.0 ≡ marked marks old.0
     pub empty : now.1 ≡ []
 
   pub waits_first : (me : Hand V E S) → me.1 ≡ [] → Waits me me
-  waits_first me empty = record { looked_at = me.0.looked; view = refl; empty = empty }
+  waits_first me empty = record { marks = me.0.marks; view = refl; empty = empty }
 
-  pub waits_on : (old now next : Hand V E S) (k : ℕ) → Waits old now → next.0 ≡ looking k now.0 → next.1 ≡ [] → Waits old next
-  waits_on old now next k w view empty = record { looked_at = k; view = view ∙ ap (looking k) w.view; empty = empty }
+  pub waits_on : (old now next : Hand V E S) (m : Marks) → Waits old now → next.0 ≡ marked m now.0 → next.1 ≡ [] → Waits old next
+  waits_on old now next m w view empty = record { marks = m; view = view ∙ ap (marked m) w.view; empty = empty }
 
   -- a turn of a pass that waited is one of the pass as it was
   pub took_waiting : {A : Type 0} (says : S → List (Entered E) → Entered E → Turn A → Type 0) (old now : Hand V E S) (e : Entered E) (r : Turn A) (w : View E S) → Waits old now → Takes says now.0 e r w → Takes says old.0 e r w
-  took_waiting says old now e r w waits took = let k = waits.looked_at in record {
+  took_waiting says old now e r w waits took = record {
     found = took.found;
     full = took.full;
-    after = took.after ∙ ap (rested (took.found ++ done_entries r e) took.full) waits.view;
+    marks = took.marks;
+    after = took.after ∙ ap (λ (z : View E S). rested (took.found ++ done_entries r e) took.full (marked took.marks z)) waits.view;
     seen = subst (λ (z : View E S). IsPrefix z.seen took.found) waits.view took.seen;
     entries = subst (λ (z : View E S). All (HasAllOf took.found) (held_lines z)) waits.view took.entries;
     kept = λ t. took.kept (ap (λ (z : View E S). z.full) waits.view ∙ t);

@@ -6,7 +6,9 @@ use Rattle.mix_base.specs.declared.numbers.PassNo.{PassNo}
 use Rattle.mix_turn.specs.declared.entered.Entered.{Entered}
 use Rattle.mix_turn.specs.declared.entered.PassEntries.{PassEntries}
 use Rattle.mix_turn.specs.declared.turn.Turn.{Turn}
+use Rattle.mix_turn.specs.declared.view.Marks.{Marks}
 use Rattle.mix_turn.specs.Entries.{pass_no, entered, HasAllOf}
+use Rattle.mix_turn.specs.Marks.{no_marks}
 use Rattle.mix_turn.specs.Parts.{all_parts}
 use Rattle.mix_turn.specs.Turns.{done_entries}
 
@@ -17,7 +19,7 @@ pub record Gate (S : Type 0) : Type 0 where
 
 -- Of a pass: the turnstile that it is of, that one's start, and its own number; its own entries in order; those of the passes that were joined into it;
 -- the beginning of the history that it has seen; whether it has seen a turn refused as full; a number that is above every number it knows of;
--- and its parts of the right to close
+-- its parts of the right to close; and what it remembers of its looks and tries
 pub record Known (E S : Type 0) : Type 0 where
   pub of : TableId
   pub start : S
@@ -28,6 +30,7 @@ pub record Known (E S : Type 0) : Type 0 where
   pub full : Bool
   pub above : ℕ
   pub parts : ℕ
+  pub marks : Marks
 
 module _ {E S : Type 0} where
   -- the pass is one of this turnstile's, and shows its start
@@ -35,7 +38,7 @@ module _ {E S : Type 0} where
     pub id : pass.of ≡ gate.id
     pub start : pass.start ≡ gate.start
 
-  -- the first pass of a turnstile: it has number 0 and all parts, and has made and seen nothing
+  -- the first pass of a turnstile: it has number 0 and all parts, has made and seen nothing, and has looked at nothing
   pub record IsFirst (gate : Gate S) (pass : Known E S) : Type 0 where
     pub of : IsOf gate pass
     pub number : pass.number ≡ 0
@@ -45,6 +48,7 @@ module _ {E S : Type 0} where
     pub full : pass.full ≡ false
     pub above : pass.above ≡ 1
     pub parts : pass.parts ≡ all_parts
+    pub marks : pass.marks ≡ no_marks
 
   -- a pass's number, with its own entries
   abbrev pub line_of : Known E S → PassEntries E

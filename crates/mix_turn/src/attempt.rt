@@ -1,9 +1,10 @@
 //! One try for a turn, and tries until one wins.
-ghost use Rattle.std.specs.Prelude.{◌≡◌, ◌+◌, ◌<◌, ◌^◌, [], MatchResult};
+ghost use Rattle.std.specs.Prelude.{◌≡◌, ◌+◌, ◌<◌, ◌^◌, [], MatchResult, OnOk};
 ghost use Rattle.mix_turn.specs.Entries.{entered};
 ghost use Rattle.mix_turn.specs.Faults.{IsBusy};
+ghost use Rattle.mix_turn.specs.Marks.{IsWon};
 ghost use Rattle.mix_turn.specs.Steps.{IsAtRest, Takes};
-ghost use Rattle.mix_turn.specs.Views.{IsLive, looking};
+ghost use Rattle.mix_turn.specs.Views.{IsLive, marked};
 
 use crate::faults::Busy;
 use crate::law::Law;
@@ -39,8 +40,9 @@ pub(crate) fn attempt<V: Turned>(
     ensures empty { seat.new.me.1 ≡ [] }
     ensures turn { MatchResult result
         (λ reply. Takes V.answers seat.old.me.0 (entered from entry) reply seat.new.me.0)
-        (λ refused. (seat.new.me.0 ≡ looking refused.0.serving seat.old.me.0)
-        × (refused.1 ≡ entry) × IsBusy refused.0) }
+        (λ refused. (seat.new.me.0 ≡ marked seat.new.me.0.marks seat.old.me.0)
+        × (refused.1 ≡ entry) × IsBusy seat.old.me.0.marks seat.new.me.0.marks refused.0) }
+    ensures won { OnOk result (IsWon seat.old.me.0.marks seat.new.me.0.marks) }
 {
     let serving = shared.load::<Look>(seat, SERVING);
     if serving >= 1 << 63 {

@@ -10,10 +10,10 @@ join_seat-requires g c = let t = g.V.Turned in let p = c.pass in let q = c.other
 
 pub load-requires : goal.load-requires
 load-requires g c = let t = g.V.Turned in
-    (search rules, search rules, counts t.journal t.misses t.start t.full _ _ _ c.join_seat.new.seat.me (ap (λ m. is_some m.0.start) c.join_seat.ensures.2 ∙ c.pass.inside.live))
+    (search rules, search rules, counts t.journal t.misses t.start t.full _ _ _ c.join_seat.new.seat.me (ap (λ m. is_some m.0.start) c.join_seat.ensures.2 ∙ c.pass.inside.live) (ap (λ m. m.0.turn) c.join_seat.ensures.2 ∙ c.pass.invariant.idle))
 
 pub returns-clause-entries : goal.returns-clause-entries
-returns-clause-entries g c = told_entries c.join_seat.new.seat.me c.load.new.seat.me c.load.result c.load.ensures.2 (ap (λ m. m.0.spare) c.join_seat.ensures.2 ∙ c.pass.invariant.spent)
+returns-clause-entries g c = told_entries c.join_seat.new.seat.me c.load.new.seat.me c.load.result c.load.ensures.2.1 (ap (λ m. m.0.spare) c.join_seat.ensures.2 ∙ c.pass.invariant.spent)
 
 pub returns-clause-below : goal.returns-clause-below
-returns-clause-below g c = told_below c.join_seat.new.seat.me c.load.new.seat.me c.load.result c.load.ensures.2 (ap (λ m. m.0.spare) c.join_seat.ensures.2 ∙ c.pass.invariant.spent)
+returns-clause-below g c = told_below c.join_seat.new.seat.me c.load.new.seat.me c.load.result c.load.ensures.2.1 (ap (λ m. m.0.spare) c.join_seat.ensures.2 ∙ c.pass.invariant.spent)
