@@ -1,10 +1,10 @@
 //! One try for a turn, and tries until one wins.
-ghost use Rattle.std.specs.Prelude.{◌≡◌, ◌+◌, ◌<◌, ◌^◌, [], MatchResult, OnOk};
+ghost use Rattle.std.specs.Prelude.{◌≡◌, ◌+◌, ◌<◌, ◌^◌, false, [], MatchResult, OnOk};
 ghost use Rattle.mix_turn.specs.Entries.{entered};
 ghost use Rattle.mix_turn.specs.Faults.{IsBusy};
 ghost use Rattle.mix_turn.specs.Marks.{IsWon};
 ghost use Rattle.mix_turn.specs.Steps.{IsAtRest, Takes};
-ghost use Rattle.mix_turn.specs.Views.{IsLive, marked};
+ghost use Rattle.mix_turn.specs.Views.{IsLive, looking, marked};
 
 use crate::faults::Busy;
 use crate::law::Law;
@@ -23,6 +23,20 @@ pub(crate) const TICKET: usize = 1;
 
 /// The word that counts the turns that are over.
 pub(crate) const SERVING: usize = 2;
+
+/// One look at the serving number.
+fn look_at_serving<V: Turned>(
+    shared: &Shared<Option<V>, View<V::Entry, V::Start>, Start<V>, Law<V>>,
+    seat: &mut Seat<Option<V>, View<V::Entry, V::Start>>,
+) -> u64
+    requires of { seat.old.table_id ≡ shared.now.table_id }
+    requires words { shared.now.table_id.words ≡ 3 }
+    requires idle { seat.old.me.0.turn ≡ false }
+    ensures of { seat.new.table_id ≡ seat.old.table_id }
+    ensures looked { seat.new.me ≡ (looking result seat.old.me.0, seat.old.me.1) }
+{
+    shared.load::<Look>(seat, SERVING)
+}
 
 /// One look at the serving number, and one try for its ticket at most. A refused entry comes back.
 pub(crate) fn attempt<V: Turned>(
@@ -44,7 +58,7 @@ pub(crate) fn attempt<V: Turned>(
         × (refused.1 ≡ entry) × IsBusy seat.old.me.0.marks seat.new.me.0.marks refused.0) }
     ensures won { OnOk result (IsWon seat.old.me.0.marks seat.new.me.0.marks) }
 {
-    let serving = shared.load::<Look>(seat, SERVING);
+    let serving = look_at_serving(shared, seat);
     if serving >= 1 << 63 {
         return Err((
             Busy {
