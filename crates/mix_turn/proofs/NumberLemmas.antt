@@ -9,11 +9,11 @@ use lib.ListN.{get_elem?}
 use Rattle.atomic_table.proofs.Lists.{at_set}
 use Rattle.mix_turn.specs.declared.entered.Entered.{Entered}
 use Rattle.mix_turn.specs.declared.entered.PassEntries.{PassEntries}
-use Rattle.mix_turn.specs.declared.view.Marks.{Marks}
+use Rattle.mix_turn.specs.declared.view.Tally.{Tally}
 use Rattle.mix_turn.specs.declared.view.View.{View}
 use Rattle.mix_turn.specs.Entries.{entries_of, HasAllOf, times}
 use Rattle.mix_turn.specs.Parts.{doubled, least_parts, all_parts, weigh}
-use Rattle.mix_turn.specs.Views.{IsLive, spare_lines, if_started, own_line, other_lines, held_lines, live_lines, parts_of, first_view, marked, sparing, splitter_view, child_view, both_views, spent_view}
+use Rattle.mix_turn.specs.Views.{IsLive, spare_lines, if_started, own_line, other_lines, held_lines, live_lines, parts_of, first_view, tallied, sparing, splitter_view, child_view, both_views, spent_view}
 use Rattle.mix_turn.specs.Rule.{Numbers}
 use Rattle.mix_turn.proofs.HistoryLemmas.{all_nothing, all_cons, all_head, all_rest, length-numbered}
 
@@ -225,16 +225,16 @@ module _ {E S : Type 0} where
     whole = let s = weigh_set parts_of views id v w at in let h = n.whole in omega arith;
   }
 
-  count_sparing : (p k : ℕ) (m : Marks) (v : View E S) → IsLive v → v.spare ≡ None → count p (sparing k (marked m v)) ≡ count p v + bit (eqb k p)
+  count_sparing : (p k : ℕ) (m : Tally) (v : View E S) → IsLive v → v.spare ≡ None → count p (sparing k (tallied m v)) ≡ count p v + bit (eqb k p)
   count_sparing p k m v live empty =
       let c = count_live p v live in
-      let d = count_live p (sparing k (marked m v)) live in
+      let d = count_live p (sparing k (tallied m v)) live in
       let e : times p (other_lines v) ≡ times p v.joined = ap (λ (o : Option ℕ). times p (spare_lines o ++ v.joined)) empty in omega arith
 
   -- a view takes the next number into its hand
-  pub numbers_spared : (k : ℕ) (m : Marks) (views : List (View E S)) (id : ℕ) (v : View E S) → k < 4294967295 → get_elem? views id ≡ some v → IsLive v → v.spare ≡ None → Numbers k views
-      → Numbers (k + 1) (set views id (sparing k (marked m v)))
-  numbers_spared k m views id v small at live empty n = let step = least_step k small in let w : View E S = sparing k (marked m v) in record {
+  pub numbers_spared : (k : ℕ) (m : Tally) (views : List (View E S)) (id : ℕ) (v : View E S) → k < 4294967295 → get_elem? views id ≡ some v → IsLive v → v.spare ≡ None → Numbers k views
+      → Numbers (k + 1) (set views id (sparing k (tallied m v)))
+  numbers_spared k m views id v small at live empty n = let step = least_step k small in let w : View E S = sparing k (tallied m v) in record {
     few = omega arith;
     given = λ p l. let s = weigh_set (count p) views id v w at in let c = count_sparing p k m v live empty in dite (ℕ_discrete k p)
         (λ e. let one : bit (eqb k p) ≡ 1 = ap (λ (b : Bool). bit b) (eq-eqb k p e) in let h = n.free p (omega arith) in omega arith)

@@ -7,10 +7,10 @@ use lib.ListN.{get_elem?}
 use Rattle.atomic_table.proofs.Lists.{at_set, set_here, set_else, at_longer}
 use Rattle.mix_turn.specs.declared.entered.Entered.{Entered}
 use Rattle.mix_turn.specs.declared.entered.PassEntries.{PassEntries}
-use Rattle.mix_turn.specs.declared.view.Marks.{Marks}
+use Rattle.mix_turn.specs.declared.view.Tally.{Tally}
 use Rattle.mix_turn.specs.declared.view.View.{View}
 use Rattle.mix_turn.specs.Entries.{entries_of, numbered_from, HasAllOf}
-use Rattle.mix_turn.specs.Views.{IsLive, entry_in, own_line, other_lines, held_lines, marked, turning, rested}
+use Rattle.mix_turn.specs.Views.{IsLive, entry_in, own_line, other_lines, held_lines, tallied, turning, rested}
 use Rattle.mix_turn.specs.Rule.{Slots, EachLive, Knows, Numbers, Free, Held, Between}
 use Rattle.mix_turn.proofs.HistoryLemmas.{prefix_whole, prefix_nothing, prefix_on, all_cons, all_head, all_rest, map-numbered}
 use Rattle.mix_turn.proofs.NumberLemmas.{snoc_at, others_have_all, own_given, own_once, own_apart, counts_same, numbers_same}
@@ -136,11 +136,11 @@ module _ {V E S : Type 0} (journal : V → List (Entered E)) (misses : V → ℕ
     unborn = λ p up. c.unborn p (omega arith);
   }
 
-  -- the marks of a view without a turn change, and it remembers no serving number that was not served
-  pub marks_change : (start : S) (q t n : ℕ) (slots : Slots V) (views : List (View E S)) (id : ℕ) (v : View E S) (m : Marks) → get_elem? views id ≡ some v → v.turn ≡ false
-      → (c : Between journal misses start_of full_of start q t n slots views) → (IsLive v → m.serving ≤ n) → Between journal misses start_of full_of start q t n slots (set views id (marked m v))
-  marks_change start q t n slots views id v m at off c served =
-      idle_changes start q q t n slots views id v (marked m v) c (le_refl q) at off off
+  -- the tally of a view without a turn changes, and the serving number in it was served already
+  pub tally_changes : (start : S) (q t n : ℕ) (slots : Slots V) (views : List (View E S)) (id : ℕ) (v : View E S) (m : Tally) → get_elem? views id ≡ some v → v.turn ≡ false
+      → (c : Between journal misses start_of full_of start q t n slots views) → (IsLive v → m.serving ≤ n) → Between journal misses start_of full_of start q t n slots (set views id (tallied m v))
+  tally_changes start q t n slots views id v m at off c served =
+      idle_changes start q q t n slots views id v (tallied m v) c (le_refl q) at off off
       (λ live. let o = c.knows id v at live in record {
         starts = o.starts;
         seen = o.seen;
@@ -152,14 +152,14 @@ module _ {V E S : Type 0} (journal : V → List (Entered E)) (misses : V → ℕ
         below = o.below;
         refused = o.refused;
       })
-      (numbers_same q views id v (marked m v) at refl refl refl (λ p. refl) c.numbers)
+      (numbers_same q views id v (tallied m v) at refl refl refl (λ p. refl) c.numbers)
 
   -- the ticket of a free lock is taken
-  pub takes_turn : (start : S) (q t n t' : ℕ) (slots : Slots V) (views : List (View E S)) (id : ℕ) (v : View E S) (m : Marks) (c : Between journal misses start_of full_of start q t n slots views)
+  pub takes_turn : (start : S) (q t n t' : ℕ) (slots : Slots V) (views : List (View E S)) (id : ℕ) (v : View E S) (m : Tally) (c : Between journal misses start_of full_of start q t n slots views)
       (f : Free journal misses start_of full_of t n slots views c.history c.full start) → get_elem? views id ≡ some v → IsLive v → m.serving ≤ n → t < 9223372036854775808 → t' ≡ t + 1
-      → Between journal misses start_of full_of start q t' n (none ∷ []) (set views id (turning (journal f.value) (full_of f.value) (misses f.value) (marked m v)))
+      → Between journal misses start_of full_of start q t' n (none ∷ []) (set views id (turning (journal f.value) (full_of f.value) (misses f.value) (tallied m v)))
   takes_turn start q t n t' slots views id v m c f at live served small next =
-      let w : View E S = turning (journal f.value) (full_of f.value) (misses f.value) (marked m v) in
+      let w : View E S = turning (journal f.value) (full_of f.value) (misses f.value) (tallied m v) in
       let o = c.knows id v at live in
       let even = f.even in record {
         history = c.history;
@@ -230,7 +230,7 @@ module _ {V E S : Type 0} (journal : V → List (Entered E)) (misses : V → ℕ
       let ahead = h.ahead in
       let counts = on.counted in
       let o = c.knows id v at live in
-      let looked : v.marks.serving ≤ n = o.looked in
+      let looked : v.tally.serving ≤ n = o.looked in
       let others : (p : ℕ) → p ≢ v.number → entries_of p (journal y) ≡ entries_of p c.history = λ p ne. on.others p ne ∙ ap (entries_of p) seen in
       let own : HasAllOf (journal y) (own_line w) = on.own_is ∙ ap (numbered_from 0 v.number) (sym (ap (map entry_in) on.own_is ∙ map-numbered 0 v.number on.own)) in
       let all : All (HasAllOf (journal y)) (held_lines w) =
@@ -266,7 +266,7 @@ module _ {V E S : Type 0} (journal : V → List (Entered E)) (misses : V → ℕ
               below = all_cons (under v) (own_line w) (other_lines v) (all_head (under v) (own_line v) (other_lines v) o.below) (all_rest (under v) (own_line v) (other_lines v) o.below);
               refused = λ e. e;
             })
-            (λ j d other e alive. let k = c.knows j d e alive in let old : d.marks.serving ≤ n = k.looked in record {
+            (λ j d other e alive. let k = c.knows j d e alive in let old : d.tally.serving ≤ n = k.looked in record {
               starts = k.starts;
               seen = prefix_on d.seen c.history (journal y) k.seen (subst (λ l. IsPrefix l (journal y)) seen on.longer);
               shorter = k.shorter;

@@ -14,14 +14,14 @@ use Rattle.mix_turn.specs.declared.entered.PassEntries.{PassEntries}
 use Rattle.mix_turn.specs.declared.view.View.{View}
 use Rattle.mix_turn.specs.Entries.{entries_of, HasAllOf}
 use Rattle.mix_turn.specs.Known.{greater}
-use Rattle.mix_turn.specs.Marks.{with_look, with_try, with_count, with_take}
+use Rattle.mix_turn.specs.Tally.{with_look, with_try, with_count, with_take}
 use Rattle.mix_turn.specs.Parts.{all_parts}
 use Rattle.mix_turn.specs.Views.{IsLive, spare_lines, own_line, other_lines, held_lines, first_view, looking, trying, counting, finding, turning, rested, sparing, splitter_view, child_view, both_views, spent_view}
 use Rattle.mix_turn.specs.Rule.{Slots, Knows, Free, Held, Between, Rule}
 use Rattle.mix_turn.specs.Steps.{Hand, looked, counted, spared, advanced, tried}
 use Rattle.mix_turn.proofs.HistoryLemmas.{prefix_nothing, squeezed, none_before, all_nothing, all_cons, all_head, all_rest, all_append, all_map, longest}
-use Rattle.mix_turn.proofs.NumberLemmas.{alone, has_all_lines, all_counted, lengths_are, length_in, length_of, numbers_same, numbers_spared, numbers_split, numbers_joined, numbers_first}
-use Rattle.mix_turn.proofs.RuleLemmas.{at_length, same_at, each_after, each_more, turn_idle, turn_more, idle_changes, marks_change, takes_turn, ahead_of, GoesOn, gives_back}
+use Rattle.mix_turn.proofs.NumberLemmas.{alone, has_all_lines, all_counted, lengths_are, length_in, length_of, numbers_spared, numbers_split, numbers_joined, numbers_first}
+use Rattle.mix_turn.proofs.RuleLemmas.{at_length, same_at, each_after, each_more, turn_idle, turn_more, idle_changes, tally_changes, takes_turn, ahead_of, GoesOn, gives_back}
 
 lt_of_ne : (a b : ℕ) → a ≤ b → b ≢ a → a < b
 lt_of_ne a b l ne = dite (ℕ_discrete b a) (λ e. absurd (ne e)) (λ _. omega arith)
@@ -119,7 +119,7 @@ module _ {V E S : Type 0} (journal : V → List (Entered E)) (misses : V → ℕ
           ticket = r.ticket;
           serving = r.serving;
           words = refl;
-          between = marks_change journal misses start_of full_of start r.made r.ticket r.serving s.homes s.views id me.0 (with_look r.serving me.0.marks) at idle r.between (λ _. le_refl r.serving);
+          between = tally_changes journal misses start_of full_of start r.made r.ticket r.serving s.homes s.views id me.0 (with_look r.serving me.0.tally) at idle r.between (λ _. le_refl r.serving);
         },
         (refl, refl),
       )
@@ -141,7 +141,7 @@ module _ {V E S : Type 0} (journal : V → List (Entered E)) (misses : V → ℕ
           ticket = r.ticket;
           serving = r.serving;
           words = refl;
-          between = marks_change journal misses start_of full_of start r.made r.ticket r.serving s.homes s.views id me.0 (with_count r.made me.0.marks) at idle c (λ _. o.looked);
+          between = tally_changes journal misses start_of full_of start r.made r.ticket r.serving s.homes s.views id me.0 (with_count r.made me.0.tally) at idle c (λ _. o.looked);
         },
         (refl, record { after = refl; few = c.numbers.few; shorter = o.shorter; entries = o.seen_entries; below = o.below }),
       )
@@ -152,10 +152,10 @@ module _ {V E S : Type 0} (journal : V → List (Entered E)) (misses : V → ℕ
       × Law (record { words = set ws 1 (either (eqb (get_or ws 1 0) old) (old + 1) (get_or ws 1 0)); homes = homes_after s.homes me.1 a; views = set s.views id w })
       × tried journal misses start_of full_of (step slots 1 old (old + 1) none) me (get_or ws 1 0) (w, carried_after me.1 a)
 
-  pub tries : (slots id old : ℕ) (me : M) → me.1 ≡ [] → IsLive me.0 → me.0.turn ≡ false → me.0.marks.serving ≡ old → old < 9223372036854775808
+  pub tries : (slots id old : ℕ) (me : M) → me.1 ≡ [] → IsLive me.0 → me.0.turn ≡ false → me.0.tally.serving ≡ old → old < 9223372036854775808
       → Allows Law slots id me 1 (λ n. either (eqb n old) (old + 1) n) (tried journal misses start_of full_of (step slots 1 old (old + 1) none) me)
   tries slots id old me empty live idle looked_is small s r _ at _ =
-      let t : ℕ = r.ticket in let n : ℕ = r.serving in let c = r.between in let o = c.knows id me.0 at live in let l : me.0.marks.serving ≤ n = o.looked in
+      let t : ℕ = r.ticket in let n : ℕ = r.serving in let c = r.between in let o = c.knows id me.0 at live in let l : me.0.tally.serving ≤ n = o.looked in
       subst (Tries slots id old me s) (sym r.words) (dite (ℕ_discrete t old)
       (λ hit. ⊎_elim
       (λ (f : Free journal misses start_of full_of t n s.homes s.views c.history c.full start).
@@ -170,7 +170,7 @@ module _ {V E S : Type 0} (journal : V → List (Entered E)) (misses : V → ℕ
           serving = n;
           words = ap (λ b. r.made ∷ either b (old + 1) t ∷ n ∷ []) (eq-eqb t old hit);
           between = subst (λ h. Middle r.made (old + 1) n (set h 0 none) (set s.views id w)) (sym f.slot)
-              (takes_turn journal misses start_of full_of start r.made t n (old + 1) s.homes s.views id me.0 (with_try t me.0.marks) c f at live o.looked (omega arith) (omega arith));
+              (takes_turn journal misses start_of full_of start r.made t n (old + 1) s.homes s.views id me.0 (with_try t me.0.tally) c f at live o.looked (omega arith) (omega arith));
         },
         (
           refl,
@@ -198,7 +198,7 @@ module _ {V E S : Type 0} (journal : V → List (Entered E)) (misses : V → ℕ
           ticket = t;
           serving = n;
           words = ap (λ b. r.made ∷ either b (old + 1) t ∷ n ∷ []) (ne_eqb t old miss);
-          between = marks_change journal misses start_of full_of start r.made t n s.homes s.views id me.0 (with_try t me.0.marks) at idle c (λ _. o.looked);
+          between = tally_changes journal misses start_of full_of start r.made t n s.homes s.views id me.0 (with_try t me.0.tally) at idle c (λ _. o.looked);
         },
         (refl, (λ hit. absurd (miss hit)), λ _. (lt_of_ne old t (ahead_of journal misses start_of full_of start r.made t n s.homes s.views old c (omega arith)) miss, refl)),
       )))
@@ -265,7 +265,7 @@ module _ {V E S : Type 0} (journal : V → List (Entered E)) (misses : V → ℕ
         below = with_spare (under (q + 1)) (omega arith) (all_map (under v.above) (under (q + 1)) (held_lines v) (λ line l. omega arith) o.below);
         refused = o.refused;
       })
-      (numbers_spared q (with_take q v.marks) views id v small at live empty c.numbers)
+      (numbers_spared q (with_take q v.tally) views id v small at live empty c.numbers)
 
   pub spares : (slots id k : ℕ) (me : M) → me.1 ≡ [] → IsLive me.0 → me.0.turn ≡ false → me.0.spare ≡ None → k < 4294967295
       → Allows Law slots id me 0 (λ n. either (eqb n k) (k + 1) n) (spared (step slots 0 k (k + 1) none) me)
@@ -303,7 +303,7 @@ module _ {V E S : Type 0} (journal : V → List (Entered E)) (misses : V → ℕ
           ticket = r.ticket;
           serving = r.serving;
           words = ap (λ b. either b (k + 1) r.made ∷ r.ticket ∷ r.serving ∷ []) (ne_eqb r.made k miss);
-          between = marks_change journal misses start_of full_of start r.made r.ticket r.serving s.homes s.views id me.0 (with_take r.made me.0.marks) at off c (λ _. o.looked);
+          between = tally_changes journal misses start_of full_of start r.made r.ticket r.serving s.homes s.views id me.0 (with_take r.made me.0.tally) at off c (λ _. o.looked);
         },
         (refl, (λ hit. absurd (miss hit)), λ _. refl),
       )))

@@ -8,12 +8,12 @@ use Rattle.mix_turn.specs.declared.entered.Entered.{Entered}
 use Rattle.mix_turn.specs.declared.entered.PassEntries.{PassEntries}
 use Rattle.mix_turn.specs.declared.turn.Turn.{Turn}
 use Rattle.mix_turn.specs.declared.turn.Turn.TheVariants.{Done, Missed}
-use Rattle.mix_turn.specs.declared.view.Marks.{Marks}
+use Rattle.mix_turn.specs.declared.view.Tally.{Tally}
 use Rattle.mix_turn.specs.declared.view.View.{View}
 use Rattle.mix_turn.specs.Entries.{pass_no, entered, entries_of, numbered_from, HasAllOf}
-use Rattle.mix_turn.specs.Marks.{with_look, with_try, IsWon}
+use Rattle.mix_turn.specs.Tally.{with_look, with_try, IsWon}
 use Rattle.mix_turn.specs.Turns.{OnDone, OnMissed, done_entries, done_turns, missed_turns, is_full}
-use Rattle.mix_turn.specs.Views.{IsLive, entry_in, own_line, other_lines, held_lines, marked, looking, trying, turning, rested}
+use Rattle.mix_turn.specs.Views.{IsLive, entry_in, own_line, other_lines, held_lines, tallied, looking, trying, turning, rested}
 use Rattle.mix_turn.specs.Steps.{Hand, Wins, Rests, Takes, IsAtRest}
 use Rattle.mix_turn.proofs.HistoryLemmas.{entries_of-own, entries_of-else, numbered-snoc, map-numbered, length-numbered, entries_of-short, prefix_on, all_head, all_rest, all_cons}
 use Rattle.mix_turn.proofs.RuleLemmas.{GoesOn}
@@ -28,9 +28,9 @@ or_left true b e = refl
 or_left false b e = absurd (false≢true e)
 
 -- a try that found the number looked at has won
-won_by : (k j : ℕ) (old new : Marks) → j ≡ k → new ≡ with_try j (with_look k old) → IsWon old new
+won_by : (k j : ℕ) (old new : Tally) → j ≡ k → new ≡ with_try j (with_look k old) → IsWon old new
 won_by k j old new hit e =
-    let same : k ≡ new.serving = sym (ap (λ (m : Marks). m.serving) e) in subst (λ n. new ≡ with_try n (with_look n old)) same (e ∙ ap (λ n. with_try n (with_look k old)) hit)
+    let same : k ≡ new.serving = sym (ap (λ (m : Tally). m.serving) e) in subst (λ n. new ≡ with_try n (with_look n old)) same (e ∙ ap (λ n. with_try n (with_look k old)) hit)
 
 module _ {E : Type 0} where
   -- the entry of a done turn stands behind the pass's own
@@ -97,15 +97,15 @@ module _ {V E S : Type 0} (journal : V → List (Entered E)) (misses : V → ℕ
   some_is x y e = cc
 
   -- what the whole turn is to the view that took it
-  pub took : {A : Type 0} (says : S → List (Entered E) → Entered E → Turn A → Type 0) (v u w : View E S) (x y : V) (p : PassNo) (e : E) (r : Turn A) (m : Marks) → u ≡ turning (journal x) (full_of x) (misses x) (marked m v)
+  pub took : {A : Type 0} (says : S → List (Entered E) → Entered E → Turn A → Type 0) (v u w : View E S) (x y : V) (p : PassNo) (e : E) (r : Turn A) (m : Tally) → u ≡ turning (journal x) (full_of x) (misses x) (tallied m v)
       → w ≡ rested (journal y) (full_of y) u → v.start ≡ Some (start_of x) → IsPrefix v.seen (journal x) → All (HasAllOf (journal x)) (held_lines v) → (v.full ≡ true → full_of x ≡ true)
       → length (journal x) + misses x < 9223372036854775808 → journal y ≡ journal x ++ done_entries r (entered p e) → full_of y ≡ (full_of x || is_full r) → says (start_of x) (journal x) (entered p e) r
       → All (HasAllOf w.seen) (held_lines w) → Takes says v (entered p e) r w
   took says v u w x y p e r m turns rests starts seen entries kept small more full agrees all_seen = record {
     found = journal x;
     full = full_of y;
-    marks = m;
-    after = rests ∙ (ap (rested (journal y) (full_of y)) turns ∙ ap (λ l. rested l (full_of y) (marked m v)) more);
+    tally = m;
+    after = rests ∙ (ap (rested (journal y) (full_of y)) turns ∙ ap (λ l. rested l (full_of y) (tallied m v)) more);
     seen = seen;
     entries = entries;
     kept = λ t. full ∙ or_left (full_of x) (is_full r) (kept t);
@@ -122,7 +122,7 @@ module _ {V E S : Type 0} (journal : V → List (Entered E)) (misses : V → ℕ
     pub turn : now.0.turn ≡ true
     pub goes_on : GoesOn journal misses start_of full_of now.0 y
     pub after : (m : Hand V E S) → Rests journal full_of y now m → Takes says old.0 (entered p e) r m.0
-    pub won : (m : Hand V E S) → Rests journal full_of y now m → IsWon old.0.marks m.0.marks
+    pub won : (m : Hand V E S) → Rests journal full_of y now m → IsWon old.0.tally m.0.tally
 
   -- k is the serving number looked at, and j the ticket found; m0 is the seat before the look, m1 after it, m2 after the try, m3 after the value was taken, m4 after it was put back
   pub ready : {A : Type 0} (says : S → List (Entered E) → Entered E → Turn A → Type 0) (m0 m1 m2 m3 m4 : Hand V E S) (k j : ℕ) (p : PassNo) (e : E) (r : Turn A) (x y : V) (z : Option V)
@@ -147,14 +147,14 @@ module _ {V E S : Type 0} (journal : V → List (Entered E)) (misses : V → ℕ
         live = ap (λ (u : View E S). is_some u.start) turns ∙ live;
         turn = ap (λ (u : View E S). u.turn) turns;
         goes_on = goes v m4.0 x y p e r turns rests.number_is rests.count_is starts entries more missed same full;
-        after = λ m rested_is. took says m0.0 m4.0 m.0 x y p e r v.marks turns (ap (λ (n : Hand V E S). n.0) rested_is.after) starts seen entries kept small more full agrees rested_is.entries;
-        won = λ m rested_is. won_by k j m0.0.marks m.0.marks hit (ap (λ (n : Hand V E S). n.0.marks) rested_is.after ∙ ap (λ (u : View E S). u.marks) turns);
+        after = λ m rested_is. took says m0.0 m4.0 m.0 x y p e r v.tally turns (ap (λ (n : Hand V E S). n.0) rested_is.after) starts seen entries kept small more full agrees rested_is.entries;
+        won = λ m rested_is. won_by k j m0.0.tally m.0.tally hit (ap (λ (n : Hand V E S). n.0.tally) rested_is.after ∙ ap (λ (u : View E S). u.tally) turns);
       }
 
 module _ {V E S : Type 0} where
-  -- a pass whose marks alone changed is at rest as before
-  pub rests_marked : (me me' : Hand V E S) (m : Marks) (p n : ℕ) → me'.0 ≡ marked m me.0 → me'.1 ≡ [] → IsAtRest me p n → IsAtRest me' p n
-  rests_marked me me' m p n view empty rests = record {
+  -- a pass whose tally alone changed is at rest as before
+  pub rests_tallied : (me me' : Hand V E S) (m : Tally) (p n : ℕ) → me'.0 ≡ tallied m me.0 → me'.1 ≡ [] → IsAtRest me p n → IsAtRest me' p n
+  rests_tallied me me' m p n view empty rests = record {
     empty = empty;
     idle = ap (λ (z : View E S). z.turn) view ∙ rests.idle;
     spent = ap (λ (z : View E S). z.spare) view ∙ rests.spent;
@@ -166,23 +166,23 @@ module _ {V E S : Type 0} where
 
   -- a pass that waits: it has looked and tried, and nothing else of it has changed
   pub record Waits (old now : Hand V E S) : Type 0 where
-    pub marks : Marks
-    pub view : now.0 ≡ marked marks old.0
+    pub tally : Tally
+    pub view : now.0 ≡ tallied tally old.0
     pub empty : now.1 ≡ []
 
   pub waits_first : (me : Hand V E S) → me.1 ≡ [] → Waits me me
-  waits_first me empty = record { marks = me.0.marks; view = refl; empty = empty }
+  waits_first me empty = record { tally = me.0.tally; view = refl; empty = empty }
 
-  pub waits_on : (old now next : Hand V E S) (m : Marks) → Waits old now → next.0 ≡ marked m now.0 → next.1 ≡ [] → Waits old next
-  waits_on old now next m w view empty = record { marks = m; view = view ∙ ap (marked m) w.view; empty = empty }
+  pub waits_on : (old now next : Hand V E S) (m : Tally) → Waits old now → next.0 ≡ tallied m now.0 → next.1 ≡ [] → Waits old next
+  waits_on old now next m w view empty = record { tally = m; view = view ∙ ap (tallied m) w.view; empty = empty }
 
   -- a turn of a pass that waited is one of the pass as it was
   pub took_waiting : {A : Type 0} (says : S → List (Entered E) → Entered E → Turn A → Type 0) (old now : Hand V E S) (e : Entered E) (r : Turn A) (w : View E S) → Waits old now → Takes says now.0 e r w → Takes says old.0 e r w
   took_waiting says old now e r w waits took = record {
     found = took.found;
     full = took.full;
-    marks = took.marks;
-    after = took.after ∙ ap (λ (z : View E S). rested (took.found ++ done_entries r e) took.full (marked took.marks z)) waits.view;
+    tally = took.tally;
+    after = took.after ∙ ap (λ (z : View E S). rested (took.found ++ done_entries r e) took.full (tallied took.tally z)) waits.view;
     seen = subst (λ (z : View E S). IsPrefix z.seen took.found) waits.view took.seen;
     entries = subst (λ (z : View E S). All (HasAllOf took.found) (held_lines z)) waits.view took.entries;
     kept = λ t. took.kept (ap (λ (z : View E S). z.full) waits.view ∙ t);

@@ -6,9 +6,9 @@ use Rattle.mix_base.specs.declared.numbers.PassNo.{PassNo}
 use Rattle.mix_turn.specs.declared.entered.Entered.{Entered}
 use Rattle.mix_turn.specs.declared.entered.PassEntries.{PassEntries}
 use Rattle.mix_turn.specs.declared.turn.Turn.{Turn}
-use Rattle.mix_turn.specs.declared.view.Marks.{Marks}
+use Rattle.mix_turn.specs.declared.view.Tally.{Tally}
 use Rattle.mix_turn.specs.Entries.{pass_no, entered, HasAllOf}
-use Rattle.mix_turn.specs.Marks.{no_marks}
+use Rattle.mix_turn.specs.Tally.{no_tally}
 use Rattle.mix_turn.specs.Parts.{all_parts}
 use Rattle.mix_turn.specs.Turns.{done_entries}
 
@@ -30,7 +30,7 @@ pub record Known (E S : Type 0) : Type 0 where
   pub full : Bool
   pub above : ℕ
   pub parts : ℕ
-  pub marks : Marks
+  pub tally : Tally
 
 module _ {E S : Type 0} where
   -- the pass is one of this turnstile's, and shows its start
@@ -48,7 +48,7 @@ module _ {E S : Type 0} where
     pub full : pass.full ≡ false
     pub above : pass.above ≡ 1
     pub parts : pass.parts ≡ all_parts
-    pub marks : pass.marks ≡ no_marks
+    pub tally : pass.tally ≡ no_tally
 
   -- a pass's number, with its own entries
   abbrev pub line_of : Known E S → PassEntries E

@@ -1,6 +1,6 @@
 pub mod Entries
 pub mod Turns
-pub mod Marks
+pub mod Tally
 pub mod Known
 pub mod Parts
 pub mod Views

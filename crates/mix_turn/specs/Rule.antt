@@ -31,7 +31,7 @@ module _ {E S : Type 0} where
     pub entries : All (HasAllOf history) (held_lines v)
     pub seen_entries : All (HasAllOf v.seen) (held_lines v)
     -- the serving number that it looked at was served already
-    pub looked : v.marks.serving ≤ serving
+    pub looked : v.tally.serving ≤ serving
     -- the numbers that it knows of were given
     pub above : v.above ≤ made
     pub below : All (λ line. line.pass < v.above) (held_lines v)

@@ -4,12 +4,12 @@ use mathlib.Core.List.{IsPrefix}
 use Rattle.atomic_table.specs.Table.{Me, Step}
 use Rattle.mix_turn.specs.declared.entered.Entered.{Entered}
 use Rattle.mix_turn.specs.declared.turn.Turn.{Turn}
-use Rattle.mix_turn.specs.declared.view.Marks.{Marks}
+use Rattle.mix_turn.specs.declared.view.Tally.{Tally}
 use Rattle.mix_turn.specs.declared.view.View.{View}
 use Rattle.mix_turn.specs.Entries.{entries_of, HasAllOf}
-use Rattle.mix_turn.specs.Marks.{made_word, ticket_word, serving_word}
+use Rattle.mix_turn.specs.Tally.{made_word, ticket_word, serving_word}
 use Rattle.mix_turn.specs.Turns.{done_entries, is_full}
-use Rattle.mix_turn.specs.Views.{held_lines, marked, looking, trying, counting, finding, turning, rested, sparing}
+use Rattle.mix_turn.specs.Views.{held_lines, tallied, looking, trying, counting, finding, turning, rested, sparing}
 
 -- a seat of the lock's table: the pass's view, and the slots that it has taken
 abbrev pub Hand : Type 0 → Type 0 → Type 0 → Type 0
@@ -70,12 +70,12 @@ module _ {V E S : Type 0} (journal : V → List (Entered E)) (misses : V → ℕ
       (step.word ≡ ticket_word) × (found ≡ step.first → Wins after new) × (found ≢ step.first → (step.first < found) × (new ≡ after))
 
 module _ {E S A : Type 0} (says : S → List (Entered E) → Entered E → Turn A → Type 0) where
-  -- a whole turn, of one view: it found a journal, gave its entry, and rests; its looks and tries left it some marks
+  -- a whole turn, of one view: it found a journal, gave its entry, and rests; its looks and tries left it this tally
   pub record Takes (v : View E S) (entry : Entered E) (reply : Turn A) (w : View E S) : Type 0 where
     pub found : List (Entered E)
     pub full : Bool
-    pub marks : Marks
-    pub after : w ≡ rested (found ++ done_entries reply entry) full (marked marks v)
+    pub tally : Tally
+    pub after : w ≡ rested (found ++ done_entries reply entry) full (tallied tally v)
     pub seen : IsPrefix v.seen found
     pub entries : All (HasAllOf found) (held_lines v)
     pub kept : v.full ≡ true → full ≡ true

@@ -4,11 +4,11 @@ use Rattle.std.proofs.lemmas.Bool.{false≢true}
 use Rattle.atomic_table.specs.Seated.{TableId}
 use Rattle.mix_turn.specs.declared.entered.Entered.{Entered}
 use Rattle.mix_turn.specs.declared.entered.PassEntries.{PassEntries}
-use Rattle.mix_turn.specs.declared.view.Marks.{Marks}
+use Rattle.mix_turn.specs.declared.view.Tally.{Tally}
 use Rattle.mix_turn.specs.declared.view.View.{View}
 use Rattle.mix_turn.specs.Entries.{entries_of, longer, shorter}
 use Rattle.mix_turn.specs.Known.{Known, greater}
-use Rattle.mix_turn.specs.Marks.{no_marks, with_look, with_try, with_count, with_take}
+use Rattle.mix_turn.specs.Tally.{no_tally, with_look, with_try, with_count, with_take}
 use Rattle.mix_turn.specs.Parts.{all_parts}
 
 module _ {E : Type 0} where
@@ -68,7 +68,7 @@ module _ {E S : Type 0} where
         full = v.full;
         above = v.above;
         parts = v.parts;
-        marks = v.marks;
+        tally = v.tally;
       }
 
   -- the first pass has number 0, all parts and no entries
@@ -85,30 +85,30 @@ module _ {E S : Type 0} where
         above = 1;
         parts = all_parts;
         spare = None;
-        marks = no_marks;
+        tally = no_tally;
         turn = false;
         missed = 0;
       }
 
-  -- the view with these marks
-  abbrev pub marked : Marks → View E S → View E S
-  marked m v = record v { marks = m }
+  -- the view with this tally
+  abbrev pub tallied : Tally → View E S → View E S
+  tallied t v = record v { tally = t }
 
   -- it looked at the serving number
   abbrev pub looking : ℕ → View E S → View E S
-  looking n v = marked (with_look n v.marks) v
+  looking n v = tallied (with_look n v.tally) v
 
   -- it tried for a ticket
   abbrev pub trying : ℕ → View E S → View E S
-  trying n v = marked (with_try n v.marks) v
+  trying n v = tallied (with_try n v.tally) v
 
   -- it looked at how many numbers were given
   abbrev pub counting : ℕ → View E S → View E S
-  counting n v = marked (with_count n v.marks) v
+  counting n v = tallied (with_count n v.tally) v
 
   -- it tried for a number of a pass
   abbrev pub finding : ℕ → View E S → View E S
-  finding n v = marked (with_take n v.marks) v
+  finding n v = tallied (with_take n v.tally) v
 
   -- its turn has come: it has seen the whole journal, and whether the value tells a turn refused as full
   abbrev pub turning : List (Entered E) → Bool → ℕ → View E S → View E S
@@ -128,7 +128,7 @@ module _ {E S : Type 0} where
   abbrev pub splitter_view : View E S → View E S
   splitter_view v = record v { parts = v.parts - v.parts / 2; spare = None }
 
-  -- the new pass has the number, the other half, what the splitter has seen, no entries, and no marks
+  -- the new pass has the number, the other half, what the splitter has seen, no entries, and an empty tally
   abbrev pub child_view : View E S → View E S
   child_view v =
       record {
@@ -142,7 +142,7 @@ module _ {E S : Type 0} where
         above = v.above;
         parts = v.parts / 2;
         spare = None;
-        marks = no_marks;
+        tally = no_tally;
         turn = false;
         missed = 0;
       }
@@ -173,7 +173,7 @@ module _ {E S : Type 0} where
         above = 0;
         parts = 0;
         spare = None;
-        marks = no_marks;
+        tally = no_tally;
         turn = false;
         missed = 0;
       }

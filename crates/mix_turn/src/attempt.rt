@@ -2,9 +2,9 @@
 ghost use Rattle.std.specs.Prelude.{◌≡◌, ◌+◌, ◌<◌, ◌^◌, false, [], MatchResult, OnOk};
 ghost use Rattle.mix_turn.specs.Entries.{entered};
 ghost use Rattle.mix_turn.specs.Faults.{IsBusy};
-ghost use Rattle.mix_turn.specs.Marks.{IsWon};
+ghost use Rattle.mix_turn.specs.Tally.{IsWon};
 ghost use Rattle.mix_turn.specs.Steps.{IsAtRest, Takes};
-ghost use Rattle.mix_turn.specs.Views.{IsLive, looking, marked};
+ghost use Rattle.mix_turn.specs.Views.{IsLive, looking, tallied};
 
 use crate::faults::Busy;
 use crate::law::Law;
@@ -54,9 +54,9 @@ pub(crate) fn attempt<V: Turned>(
     ensures empty { seat.new.me.1 ≡ [] }
     ensures turn { MatchResult result
         (λ reply. Takes V.answers seat.old.me.0 (entered from entry) reply seat.new.me.0)
-        (λ refused. (seat.new.me.0 ≡ marked seat.new.me.0.marks seat.old.me.0)
-        × (refused.1 ≡ entry) × IsBusy seat.old.me.0.marks seat.new.me.0.marks refused.0) }
-    ensures won { OnOk result (IsWon seat.old.me.0.marks seat.new.me.0.marks) }
+        (λ refused. (seat.new.me.0 ≡ tallied seat.new.me.0.tally seat.old.me.0)
+        × (refused.1 ≡ entry) × IsBusy seat.old.me.0.tally seat.new.me.0.tally refused.0) }
+    ensures won { OnOk result (IsWon seat.old.me.0.tally seat.new.me.0.tally) }
 {
     let serving = look_at_serving(shared, seat);
     if serving >= 1 << 63 {

@@ -25,4 +25,4 @@ pub use start::Start;
 pub use turn::{Miss, Turn};
 pub use turned::Turned;
 pub use turnstile::Turnstile;
-pub use view::{Marks, View};
+pub use view::{Tally, View};

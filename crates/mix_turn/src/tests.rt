@@ -1,5 +1,5 @@
 //! Turns by one pass, by a tree of passes, and by threads beside one another.
-ghost use Rattle.std.specs.Prelude.{◌≡◌, [], IfOk, length};
+ghost use Rattle.std.specs.Prelude.{◌≡◌, ◌+◌, [], IfOk, IfErr, length};
 ghost use Rattle.mix_turn.specs.Known.{IsOf};
 ghost use Rattle.mix_turn.specs.Parts.{all_parts};
 ghost use Rattle.mix_turn.specs.Turns.{IfDone};
@@ -182,6 +182,8 @@ fn try_beside(
     requires { IsOf turnstile.now pass.old }
     ensures of { IsOf turnstile.now pass.new }
     ensures parts { pass.new.parts ≡ pass.old.parts }
+    ensures once { pass.new.tally.looks ≡ pass.old.tally.looks + 1 }
+    ensures told { IfErr result (λ busy. busy.serving ≡ pass.new.tally.serving) }
 {
     is_set(&gate.inside);
     let reply = turnstile.try_turn(pass, 20);

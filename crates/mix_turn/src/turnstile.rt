@@ -3,7 +3,7 @@ ghost use Rattle.std.specs.Prelude.{◌≡◌, ◌≤◌, ◌<◌, ◌+◌, ◌|
 ghost use mathlib.Core.List.{IsPrefix};
 ghost use Rattle.mix_turn.specs.Entries.{longer};
 ghost use Rattle.mix_turn.specs.Faults.{IsBusy, IsCrowded};
-ghost use Rattle.mix_turn.specs.Marks.{no_marks, with_count, with_take, IsWon};
+ghost use Rattle.mix_turn.specs.Tally.{no_tally, with_count, with_take, IsWon};
 ghost use Rattle.mix_turn.specs.Parts.{all_parts};
 ghost use Rattle.mix_turn.specs.Turns.{OnDone, OnMissed, is_full};
 
@@ -92,7 +92,7 @@ impl<V: Turned> Turnstile<V> {
           own = pass.new.own;
           seen = pass.new.seen;
           full = pass.new.full;
-          marks = pass.new.marks;
+          tally = pass.new.tally;
         } }
     {
         let from = PassNo {
@@ -104,13 +104,14 @@ impl<V: Turned> Turnstile<V> {
         reply
     }
 
-    /// Takes a turn if it is free now. A refused entry is dropped.
+    /// Takes a turn if it is free now. It looks once at the serving number, and tries once for a
+    /// ticket at most. A refused entry is dropped.
     pub fn try_turn(&self, pass: &mut Pass<V>, entry: V::Entry) -> Result<Turn<V::Answer>, Busy>
         requires of { IsOf self.now pass.old }
         ensures of { IsOf self.now pass.new }
-        ensures busy { IfErr result (IsBusy pass.old.marks pass.new.marks) }
-        ensures won { OnOk result (IsWon pass.old.marks pass.new.marks) }
-        ensures err { OnErr result (pass.new ≡ record pass.old { marks = pass.new.marks; }) }
+        ensures busy { IfErr result (IsBusy pass.old.tally pass.new.tally) }
+        ensures won { OnOk result (IsWon pass.old.tally pass.new.tally) }
+        ensures err { OnErr result (pass.new ≡ record pass.old { tally = pass.new.tally }) }
         ensures reply { IfOk result (Answers V.answers pass.old pass.new entry) }
         ensures done { IfOk result (λ t. OnDone t (pass.new.own ≡ pass.old.own ++ entry ∷ [])) }
         ensures missed { IfOk result (λ t. OnMissed t (pass.new.own ≡ pass.old.own)) }
@@ -122,7 +123,7 @@ impl<V: Turned> Turnstile<V> {
           own = pass.new.own;
           seen = pass.new.seen;
           full = pass.new.full;
-          marks = pass.new.marks;
+          tally = pass.new.tally;
         } }
     {
         let from = PassNo {
@@ -144,10 +145,10 @@ impl<V: Turned> Turnstile<V> {
     pub fn split(&self, pass: &mut Pass<V>) -> Result<Pass<V>, SplitFault>
         requires of { IsOf self.now pass.old }
         ensures of { IsOf self.now pass.new }
-        ensures crowded { IfErr result (IsCrowded pass.old.marks pass.new.marks) }
-        ensures taken { IfOk result (λ child. pass.new.marks
-            ≡ with_take child.number (with_count child.number pass.old.marks)) }
-        ensures err { OnErr result (pass.new ≡ record pass.old { marks = pass.new.marks; }) }
+        ensures crowded { IfErr result (IsCrowded pass.old.tally pass.new.tally) }
+        ensures taken { IfOk result (λ child. pass.new.tally
+            ≡ with_take child.number (with_count child.number pass.old.tally)) }
+        ensures err { OnErr result (pass.new ≡ record pass.old { tally = pass.new.tally }) }
         ensures child { IfOk result (IsOf self.now) }
         ensures number { IfOk result (λ child. pass.old.above ≤ child.number) }
         ensures apart { IfOk result (λ child.
@@ -158,11 +159,11 @@ impl<V: Turned> Turnstile<V> {
         ensures seen { IfOk result (λ child. child.seen ≡ pass.old.seen) }
         ensures full { IfOk result (λ child. child.full ≡ pass.old.full) }
         ensures parts { IfOk result (λ child. pass.new.parts + child.parts ≡ pass.old.parts) }
-        ensures marks { IfOk result (λ child. child.marks ≡ no_marks) }
+        ensures tally { IfOk result (λ child. child.tally ≡ no_tally) }
         ensures keeps { IfOk result (λ child. pass.new ≡ record pass.old {
           above = child.above;
           parts = pass.new.parts;
-          marks = pass.new.marks;
+          tally = pass.new.tally;
         }) }
         ensures entries { HasEntriesOf pass.new.seen pass.new }
         ensures below { KnowsAbove pass.new }
@@ -187,7 +188,8 @@ impl<V: Turned> Turnstile<V> {
         })
     }
 
-    /// Ends a pass: this one takes what the other has seen, its entries and its parts.
+    /// Ends a pass: this one takes what the other has seen, its entries and its parts. It looks once
+    /// at the count of numbers.
     pub fn join(&self, pass: &mut Pass<V>, other: Pass<V>)
         requires of { IsOf self.now pass.old }
         requires other_of { IsOf self.now other }
@@ -201,7 +203,7 @@ impl<V: Turned> Turnstile<V> {
         ensures parts { pass.new.parts ≡ pass.old.parts + other.parts }
         ensures number { pass.new.number ≡ pass.old.number }
         ensures own { pass.new.own ≡ pass.old.own }
-        ensures marks { pass.new.marks ≡ with_count pass.new.marks.looked pass.old.marks }
+        ensures tally { pass.new.tally ≡ with_count pass.new.tally.looked pass.old.tally }
         ensures entries { HasEntriesOf pass.new.seen pass.new }
         ensures below { KnowsAbove pass.new }
     {

@@ -4,7 +4,7 @@ use std::collections::LinkedList;
 
 /// What a pass remembers of its looks and tries at the lock's words: how many of each it made, and
 /// the number that the last one found. It exists in proofs alone, and no value of it is made.
-pub struct Marks {
+pub struct Tally {
     /// The looks at the serving number, and the number last looked at.
     pub looks: u64,
     pub serving: u64,
@@ -31,7 +31,7 @@ pub struct View<E, S> {
     pub above: u64,
     pub parts: u64,
     pub spare: Option<u32>,
-    pub marks: Marks,
+    pub tally: Tally,
     pub turn: bool,
     pub missed: u64,
 }

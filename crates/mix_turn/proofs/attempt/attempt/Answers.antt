@@ -6,9 +6,12 @@ use Rattle.mix_turn.proofs.TurnLemmas.{ready}
 use Rattle.mix_turn.proofs.attempt.attempt.Goals as goal
 
 pub compare_exchange-ticket-requires : goal.compare_exchange-ticket-requires
-compare_exchange-ticket-requires g c = let t = g.V.Turned in let l = c.look_at_serving-serving.ensures.looked in
-    (search rules, search rules, tries t.journal t.misses t.start t.full _ _ _ _ _ (ap (λ m. m.1) l ∙ c.requires.rests.empty) (ap (λ m. is_some m.0.start) l ∙ c.requires.live)
-        (ap (λ m. m.0.turn) l ∙ c.requires.rests.idle) (ap (λ m. m.0.marks.serving) l) (search rules))
+compare_exchange-ticket-requires g c = let t = g.V.Turned in let l = c.look_at_serving-serving.ensures.looked in (
+  search rules,
+  search rules,
+  tries t.journal t.misses t.start t.full _ _ _ _ _ (ap (λ m. m.1) l ∙ c.requires.rests.empty) (ap (λ m. is_some m.0.start) l ∙ c.requires.live)
+      (ap (λ m. m.0.turn) l ∙ c.requires.rests.idle) (ap (λ m. m.0.tally.serving) l) (search rules),
+)
 
 pub exchange-requires : goal.exchange-requires
 exchange-requires g c = let w = c.compare_exchange-ticket.ensures.2.1 (search rules) in

@@ -1,6 +1,6 @@
--- While it waits, nothing of the pass changes but its marks.
+-- While it waits, nothing of the pass changes but its tally.
 use Rattle.std.proofs.Common.{refl, ap, subst, ◌∙◌, is_some}
-use Rattle.mix_turn.proofs.TurnLemmas.{waits_first, took_waiting, rests_marked}
+use Rattle.mix_turn.proofs.TurnLemmas.{waits_first, took_waiting, rests_tallied}
 use Rattle.mix_turn.specs.Entries.{entered}
 use Rattle.mix_turn.specs.Steps.{Takes}
 use Rattle.mix_turn.proofs.attempt.wait_turn.Goals as goal
@@ -15,7 +15,7 @@ pub attempt-requires-clause-live : goal.attempt-requires-clause-live
 attempt-requires-clause-live g c = ap (λ z. is_some z.start) c.loop.invariant.waits.view ∙ c.requires.live
 
 pub attempt-requires-clause-rests : goal.attempt-requires-clause-rests
-attempt-requires-clause-rests g c = let w = c.loop.invariant.waits in rests_marked _ _ w.marks _ _ w.view w.empty c.requires.rests
+attempt-requires-clause-rests g c = let w = c.loop.invariant.waits in rests_tallied _ _ w.tally _ _ w.view w.empty c.requires.rests
 
 pub returns-in-Ok-clause-turn : goal.returns-in-Ok-clause-turn
 returns-in-Ok-clause-turn g c = let a = g.V.Turned.answers in let reply = c.in-Ok.reply in let now = c.attempt.new.seat.me.0 in let old = c.args.seat.now.me in
