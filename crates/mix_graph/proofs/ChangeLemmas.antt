@@ -4,7 +4,7 @@ use Rattle.std.proofs.Common.{cond, List, [], ◌∷◌, length, map, filter, fi
 use Rattle.std.proofs.Common.{refl, ap, sym, ◌∙◌, arith, Some, None, ◌==◌}
 use Rattle.std.proofs.Common.{eqb-true, eq-eqb, subst}
 use Rattle.std.proofs.lemmas.List.Sums.{sum_by-cons}
-use Rattle.std.proofs.Common.{take, ◌++◌, ◌-◌, length-append}
+use Rattle.std.proofs.Common.{take, drop, ◌++◌, ◌-◌, length-append, take-append-drop}
 use Rattle.std.proofs.Math.Seq.{take-append_seam}
 use Rattle.std.proofs.Common.{length-set}
 use Rattle.mix_graph.specs.Searched.{popped}
@@ -17,10 +17,11 @@ use Rattle.mix_model.specs.Causes.{item_count}
 use Rattle.mix_model.specs.State.{GraphState}
 use Rattle.mix_graph.specs.Searched.{InOrder}
 use Rattle.mix_graph.specs.RowEdits.{row_edited, item_edited}
-use Rattle.mix_graph.specs.declared.row_edit.RowEdit.TheVariants.{Remove, Change, Set, Rename}
+use Rattle.mix_graph.specs.declared.row_edit.RowEdit.TheVariants.{Remove, Move, Change, Set, Rename}
 use Rattle.mix_model.specs.declared.kind.Kind.TheVariants.{Scene}
 use Rattle.mix_model.specs.declared.settings.Settings.TheVariants.{None as NoSettings}
 use Rattle.mix_model.specs.Items.{with_item, new_item, without_item, without_child, with_item_changed}
+use Rattle.mix_model.specs.Items.{with_item_at}
 use Rattle.mix_model.specs.Values.{new_sound}
 use Rattle.mix_model.specs.Edits.{row_changed}
 use Rattle.std.proofs.lemmas.List.{length-map}
@@ -166,8 +167,9 @@ order_set rows i row d dying places next order below same less =
 
 -- no edit of a row changes its serial
 pub edited_serial : (edit : RowEdit) (row : Row) → (row_edited edit row).serial ≡ row.serial
-unfolding without_item with_item_changed
+unfolding without_item with_item_at with_item_changed
 edited_serial (Remove id) row = refl
+edited_serial (Move id index) row = refl
 edited_serial (Change id edit) row = refl
 edited_serial (Set settings sound) row = refl
 edited_serial (Rename name) row = refl
@@ -180,6 +182,39 @@ filter_less {X} p (x ∷ xs) = elim (p x) as (λ b.
       | false ↦ let h : length (filter p xs) ≤ length xs = filter_less p xs in omega (arith, h)
     ]
 
+by_parts : {X : Type 0} (p : X → Bool) (xs : List X) →
+    length (filter (λ x. not (p x)) xs) + length (filter p xs) ≡ length xs
+by_parts p [] = refl
+by_parts {X} p (x ∷ xs) =
+    let rest : length (filter (λ x. not (p x)) xs) + length (filter p xs) ≡ length xs =
+    by_parts p xs in
+    elim (p x) as (λ b.
+    length (cond (not b) (x ∷ filter (λ x. not (p x)) xs) (filter (λ x. not (p x)) xs))
+    + length (cond b (x ∷ filter p xs) (filter p xs)) ≡ suc (length xs)) [
+      | true ↦ omega (arith, rest)
+      | false ↦ omega (arith, rest)
+    ]
+
+-- a list that is put between the parts of another
+put_between : {X : Type 0} (xs ys : List X) (n : ℕ) →
+    length (take n xs ++ (ys ++ drop n xs)) ≡ length xs + length ys
+put_between xs ys n =
+    let whole : length (take n xs) + length (drop n xs) ≡ length xs =
+    sym (length-append (take n xs) (drop n xs)) ∙ ap length (take-append-drop n xs) in
+    omega (
+      arith,
+      whole,
+      length-append (take n xs) (ys ++ drop n xs),
+      length-append ys (drop n xs),
+    )
+
+moved_items : (id index : ℕ) (row : Row) →
+    length (with_item_at id index row).items ≡ length row.items
+unfolding with_item_at
+moved_items id index row =
+    put_between (filter (λ i. not (has_id id i)) row.items) (filter (has_id id) row.items) index
+    ∙ by_parts (has_id id) row.items
+
 same_less : (a b : ℕ) → a ≡ b → a ≤ b
 same_less a b same = omega (arith, same)
 
@@ -188,6 +223,7 @@ pub edited_items : (edit : RowEdit) (row : Row) →
     length (row_edited edit row).items ≤ length row.items
 unfolding without_item with_item_changed
 edited_items (Remove id) row = filter_less (λ i. not (has_id id i)) row.items
+edited_items (Move id index) row = same_less _ _ (moved_items id index row)
 edited_items (Change id edit) row = same_less _ _
     (length-map row.items (λ i. cond (has_id id i) (item_edited edit i) i))
 edited_items (Set settings sound) row = omega arith

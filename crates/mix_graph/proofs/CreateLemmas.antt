@@ -66,6 +66,23 @@ refused_by T cause Depth h = h
 refused_by T cause (TooMany limit) h = h
 refused_by T cause NoMemory h = tt
 
+-- a refusal of one call is that of another
+pub refused_map : (T U : Type 0) (cause : Option GraphFault) (fault : GraphFault) →
+    RefusedBy {T = T} cause (Err fault) → RefusedBy {T = U} cause (Err fault)
+refused_map T U cause NotFound h = h
+refused_map T U cause WrongKind h = h
+refused_map T U cause Exists h = h
+refused_map T U cause Cycle h = h
+refused_map T U cause Depth h = h
+refused_map T U cause (TooMany limit) h = h
+refused_map T U cause NoMemory h = tt
+
+-- and so it is where the causes are one
+pub refused_same : (T U : Type 0) (a b : Option GraphFault) (fault : GraphFault) → a ≡ b →
+    RefusedBy {T = T} a (Err fault) → RefusedBy {T = U} b (Err fault)
+refused_same T U a b fault same h =
+    refused_map T U b fault (subst (λ z. RefusedBy {T = T} z (Err fault)) same h)
+
 -- the late causes look at rows alone
 pub late_is : (after : GraphState) → late_cause after ≡ late_cause_in after.rows
 unfolding late_cause late_cause_in ranks_within weights_within rank weight rank_in weight_in
@@ -152,7 +169,7 @@ fresh_beside y xs next less none =
     has_append y xs (next ∷ []) ∙ rw (none, other)
 
 -- a serial that wasn't given differs from all
-differ_more : (xs : List ℕ) (next : ℕ) → is_distinct xs ≡ true →
+pub differ_more : (xs : List ℕ) (next : ℕ) → is_distinct xs ≡ true →
     list_all (λ x. nat_lt x next) xs ≡ true → is_distinct (xs ++ next ∷ []) ≡ true
 differ_more [] next differ below = refl
 differ_more (x ∷ xs) next differ below =

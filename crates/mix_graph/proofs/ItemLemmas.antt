@@ -1,6 +1,6 @@
 -- Why a new item is refused, and the rows with it.
-use Rattle.std.proofs.Common.{◌≡◌, ℕ, zero, suc, ◌+◌, ◌<◌, ◌≤◌, Bool, true, false, cond, not, List, []}
-use Rattle.std.proofs.Common.{◌∷◌, length, get_or, slice_set, find, refl, ap, sym, ◌∙◌, arith, subst}
+use Rattle.std.proofs.Common.{◌≡◌, ℕ, zero, suc, ◌<◌, ◌≤◌, Bool, true, false, not, List, []}
+use Rattle.std.proofs.Common.{◌∷◌, length, get_or, slice_set, find, refl, sym, ◌∙◌, arith}
 use Rattle.std.proofs.Common.{Option, Some, None, Err, nat_lt, nat_le, eq-eqb}
 use Rattle.std.specs.List.{list_all}
 use Rattle.std.proofs.lemmas.Bool.Decides.{nat_tests}
@@ -10,31 +10,31 @@ use Rattle.mix_model.specs.declared.item.ItemSpec.{ItemSpec}
 use Rattle.mix_model.specs.declared.row.Row.{Row}
 use Rattle.mix_model.specs.Sets.{has, is_distinct}
 use Rattle.mix_model.specs.Rows.{is_at, serials_of}
-use Rattle.mix_model.specs.Items.{with_item}
+use Rattle.mix_model.specs.Items.{with_item, spec_of}
 use Rattle.mix_model.specs.State.{GraphState}
-use Rattle.mix_model.specs.Lookups.{row_of}
+use Rattle.mix_model.specs.Lookups.{row_of, is_row, item_at}
 use Rattle.mix_model.specs.Holders.{is_named, named_row_or_none}
 use Rattle.mix_model.specs.Walks.{is_chained}
-use Rattle.mix_model.specs.Edits.{item_added}
+use Rattle.mix_model.specs.Edits.{item_added, item_duplicated, copied_to}
 use Rattle.mix_model.specs.Causes.{item_early, item_late, item_cause, late_cause, item_count}
-use Rattle.mix_model.specs.Causes.{first_cause, cause_or}
-use Rattle.std.proofs.Common.{Result, Ok, OnOk, OnErr, IfOk}
+use Rattle.mix_model.specs.Causes.{Cause, first_cause}
+use Rattle.mix_model.specs.Causes.{unknown, not_parent, copy_early, copy_late, copy_cause}
+use Rattle.mix_model.specs.declared.item.Item.{Item}
+use Rattle.std.proofs.Common.{Result, Ok, OnOk, OnErr, IfOk, is_some, is_none}
 use Rattle.mix_graph.specs.Refused.{RefusedBy}
 use Rattle.mix_graph.specs.Searched.{InOrder, late_cause_in, rank_in, weight_in}
-use Rattle.mix_graph.proofs.CreateLemmas.{and_first, and_second, not_true, late_is}
-use Rattle.mix_graph.proofs.ChangeLemmas.{changed_at, at_has, differs, order_same, set_serials}
+use Rattle.mix_graph.proofs.CreateLemmas.{and_first, and_second, not_true}
+use Rattle.mix_graph.proofs.ChangeLemmas.{changed_at, changed_length, at_has, differs, order_same, set_serials}
 
-pub item_chained : (g after : GraphState) (parent child : ℕ) →
-    item_early g parent child ≡ None → is_chained g child parent ≡ true →
-    item_cause g parent child after ≡ Some Cycle
+pub late_chained : (g after : GraphState) (parent child : ℕ) → is_chained g child parent ≡ true →
+    item_late g parent child after ≡ Some Cycle
 unfolding item_late
-item_chained g after parent child early chained = rw (early, chained)
+late_chained g after parent child chained = rw chained
 
-pub item_free : (g after : GraphState) (parent child : ℕ) →
-    item_early g parent child ≡ None → is_chained g child parent ≡ false →
-    item_cause g parent child after ≡ late_cause after
+pub late_free : (g after : GraphState) (parent child : ℕ) → is_chained g child parent ≡ false →
+    item_late g parent child after ≡ late_cause after
 unfolding item_late late_cause
-item_free g after parent child early free = rw (early, free)
+late_free g after parent child free = rw free
 
 -- the row that has the serial is the one that is found
 pub found_at : (x : ℕ) (rows : List Row) (i : ℕ) (d : Row) →
@@ -50,13 +50,88 @@ found_at x (r ∷ rows) (suc i) d differ below here =
     let tail : is_distinct (serials_of rows) ≡ true = and_second _ _ differ in
     rw other (found_at x rows i d tail (omega (arith, below)) here)
 
--- a named parent is a row
-pub not_there : (g : GraphState) (parent child : ℕ) → item_early g parent child ≡ None →
-    find (is_at parent) g.rows ≡ None → ⊥
+-- a row that is there is found
+pub no_row : (g : GraphState) (x : ℕ) → is_row g x ≡ true → find (is_at x) g.rows ≡ None → ⊥
+no_row g x there none = let gone : is_row g x ≡ false = rw none refl in
+    absurd (cc (sym there ∙ gone))
+
+row_case : (g : GraphState) (x : ℕ) (o : Option Row) → row_of g x ≡ o →
+    named_row_or_none g o ≡ true → is_some o ≡ true
+row_case g x None found named = cc
+row_case g x (Some r) found named = refl
+
+-- a named row is there
+pub named_there : (g : GraphState) (x : ℕ) → is_named g x ≡ true → is_row g x ≡ true
+named_there g x named = row_case g x (row_of g x) refl named
+
+first_free : (a : Bool) (fault : GraphFault) (more : List Cause) →
+    first_cause ((not a, fault) ∷ more) ≡ None → a ≡ true
+first_free true fault more h = refl
+first_free false fault more h = cc
+
+second_free : (a b : Bool) (fa fb : GraphFault) (more : List Cause) →
+    first_cause ((a, fa) ∷ ((b, fb) ∷ more)) ≡ None → b ≡ false
+second_free true b fa fb more h = cc
+second_free false true fa fb more h = cc
+second_free false false fa fb more h = refl
+
+third_free : (a b c : Bool) (fa fb fc : GraphFault) (more : List Cause) →
+    first_cause ((a, fa) ∷ ((b, fb) ∷ ((not c, fc) ∷ more))) ≡ None → c ≡ true
+third_free true b c fa fb fc more h = cc
+third_free false true c fa fb fc more h = cc
+third_free false false true fa fb fc more h = refl
+third_free false false false fa fb fc more h = cc
+
+-- a parent that isn't refused is there
+pub parent_there : (g : GraphState) (parent child : ℕ) → item_early g parent child ≡ None →
+    is_row g parent ≡ true
 unfolding item_early
-not_there g parent child early none =
-    let refused : item_early g parent child ≡ Some NotFound = rw none in
-    absurd (cc (sym early ∙ refused))
+parent_there g parent child early = named_there g parent (first_free (is_named g parent) NotFound
+    (unknown g child ∷ (not_parent g parent ∷ [])) early)
+
+-- and so are an item that is copied, and where its copy goes
+pub copied_there : (g : GraphState) (parent id to : ℕ) → copy_early g parent id to ≡ None →
+    is_none (item_at g parent id) ≡ false
+unfolding copy_early
+copied_there g parent id to early = second_free (not (is_named g parent))
+    (is_none (item_at g parent id)) NotFound NotFound (unknown g to ∷ (not_parent g to ∷ [])) early
+
+pub goal_there : (g : GraphState) (parent id to : ℕ) → copy_early g parent id to ≡ None →
+    is_row g to ≡ true
+unfolding copy_early
+goal_there g parent id to early = named_there g to (third_free (not (is_named g parent))
+    (is_none (item_at g parent id)) (is_named g to) NotFound NotFound NotFound
+    (not_parent g to ∷ []) early)
+
+-- a copy is an item of the same child
+pub copy_put : (g : GraphState) (parent id to : ℕ) (item : Item) →
+    item_at g parent id ≡ Some item →
+    item_duplicated parent id to g ≡ item_added to item.child (spec_of item) g
+unfolding item_duplicated item_added
+copy_put g parent id to item found = rw found refl
+
+copied_case : (to : ℕ) (item : Option Item) (g : GraphState) →
+    length (copied_to to item g).rows ≡ length g.rows
+copied_case to None g = refl
+copied_case to (Some item) g = changed_length to (with_item item.child (spec_of item)) g
+
+-- a copy leaves the number of rows
+pub copied_length : (parent id to : ℕ) (g : GraphState) →
+    length (item_duplicated parent id to g).rows ≡ length g.rows
+unfolding item_duplicated
+copied_length parent id to g = copied_case to (item_at g parent id) g
+
+-- nothing is refused early: the late causes of that item are left
+pub copy_free : (g after : GraphState) (parent id to : ℕ) (item : Item) →
+    copy_early g parent id to ≡ None → item_at g parent id ≡ Some item →
+    copy_cause g parent id to after ≡ item_late g to item.child after
+unfolding copy_late
+copy_free g after parent id to item early found = rw (early, found) refl
+
+-- nothing is refused early: the late causes are left
+pub item_free : (g after : GraphState) (parent child : ℕ) → item_early g parent child ≡ None →
+    item_cause g parent child after ≡ item_late g parent child after
+item_free g after parent child early = rw early refl
 
 third_passed : (a b c d : Bool) (fa fb fc fd : GraphFault) →
     first_cause ((a, fa) ∷ ((b, fb) ∷ ((c, fc) ∷ ((d, fd) ∷ [])))) ≡ None → c ≡ false
@@ -65,7 +140,8 @@ third_passed false true c d fa fb fc fd h = cc
 third_passed false false true d fa fb fc fd h = cc
 third_passed false false false d fa fb fc fd h = refl
 
-few_items : (rows : List Row) → late_cause_in rows ≡ None → item_count rows ≤ 2048
+-- rows that are allowed have few items
+pub few_items : (rows : List Row) → late_cause_in rows ≡ None → item_count rows ≤ 2048
 unfolding late_cause_in
 few_items rows none =
     let passed : nat_lt 2048 (item_count rows) ≡ false = third_passed

@@ -14,3 +14,15 @@ pub mod KeptLemmas
 pub mod ChangeLemmas
 -- why a new item is refused, and the rows with it
 pub mod ItemLemmas
+-- the rows that a frame lists
+pub mod FrameLemmas
+-- the row that is destroyed, and what is left
+pub mod DestroyLemmas
+-- the least serial above another
+pub mod NextLemmas
+-- an item that is raised to the top
+pub mod MoveLemmas
+-- new sources with an item that shows them
+pub mod ShownLemmas
+-- what has changed, row by row
+pub mod ToldLemmas

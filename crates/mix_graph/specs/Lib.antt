@@ -2,3 +2,5 @@ pub mod Refused
 pub mod Searched
 pub mod Settling
 pub mod RowEdits
+pub mod Asked
+pub mod Created

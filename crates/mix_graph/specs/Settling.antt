@@ -1,10 +1,12 @@
 -- The settling by flags: what the code writes beside each row.
-use Rattle.std.specs.Prelude.{ℕ, Bool, List, [], ◌∷◌, ◌&&◌, not, if◌then◌else◌, ◌≡◌, ◌≤◌, length}
+use Rattle.std.specs.Prelude.{ℕ, Bool, List, [], ◌∷◌, ◌&&◌, not, if◌then◌else◌, ◌≡◌, ◌≤◌, length, ◌++◌, ◌+◌}
+use Rattle.mix_model.specs.declared.change.Change.{Change}
+use Rattle.mix_model.specs.Settle.{change_if}
 use Rattle.mix_model.specs.declared.row.Row.{Row}
 use Rattle.mix_model.specs.Sets.{has}
 use Rattle.mix_model.specs.State.{GraphState}
 use Rattle.mix_model.specs.Holders.{is_held}
-use Rattle.mix_model.specs.Marks.{Mark, was_active, since_marked, GraphModel, settled_by}
+use Rattle.mix_model.specs.Marks.{Mark, was_active, since_marked, changes_by}
 
 -- the number that a row gets: the clock where it became active, else what it was
 abbrev pub since_by : List Mark → ℕ → ℕ → Bool → ℕ
@@ -41,12 +43,31 @@ marked_by (row ∷ rows) (a ∷ active) (s ∷ showing) = record {
   since = row.since;
 } ∷ marked_by rows active showing
 
--- a graph keeps two flags for each row, and room for a mark of each
-pub record Kept (rows : List Row) (active showing : List Bool) (places : ℕ) : Type 0 where
-  pub active_each : length active ≡ length rows
-  pub showing_each : length showing ≡ length rows
-  pub mark_each : length rows ≤ places
+-- the changes of rows, by the flags of what holds now
+abbrev pub told_by :
+    (ℕ → Bool → Change) → (ℕ → Bool) → List Row → List Bool → List Change
+told_by made was [] flags = []
+told_by made was (row ∷ rows) [] = []
+told_by made was (row ∷ rows) (flag ∷ flags) =
+    change_if made (was row.serial) flag row.serial ++ told_by made was rows flags
 
--- what stands is settled against the marks
-abbrev pub settled : GraphModel → GraphModel
-settled m = record m { present = settled_by m.begun m.present }
+-- what is kept of when an action began: the marks, what has changed since, and for how many rows
+-- there are flags and room
+pub record Tallied : Type 0 where
+  pub begun : List Mark
+  pub changes : List Change
+  pub count : ℕ
+
+abbrev pub no_tally : Tallied
+no_tally = record { begun = []; changes = []; count = 0 }
+
+-- as many flags of both sorts, room for a mark of each row, and for both its changes
+pub record Roomy (active showing marks changes : ℕ) : Type 0 where
+  pub each : active ≡ showing
+  pub mark_room : active ≤ marks
+  pub change_room : active + active ≤ changes
+
+-- there are flags and room for each row, and the changes are those since the marks
+pub record IsTold (tally : Tallied) (g : GraphState) : Type 0 where
+  pub count : tally.count ≡ length g.rows
+  pub changes : tally.changes ≡ changes_by tally.begun g g.rows

@@ -4,12 +4,12 @@ ghost use Rattle.std.specs.Prelude.{slice_index_or};
 ghost use Rattle.std.specs.List.{HoldsAt};
 ghost use Rattle.mix_model.specs.declared.row.Row.{Row};
 ghost use Rattle.mix_model.specs.Rows.{has_items};
-ghost use Rattle.mix_model.specs.Lookups.{row_passes, row_of};
+ghost use Rattle.mix_model.specs.Lookups.{row_passes, row_of, is_row};
 ghost use Rattle.mix_model.specs.Walks.{is_chained};
-ghost use Rattle.mix_model.specs.Causes.{item_early, item_cause};
-ghost use Rattle.mix_model.specs.Edits.{item_added};
-ghost use Rattle.std.specs.Prelude.{IfSome};
-ghost use Rattle.mix_model.specs.Items.{new_item, with_item};
+ghost use Rattle.mix_model.specs.Causes.{item_early, item_late, item_cause, copy_early, copy_cause};
+ghost use Rattle.mix_model.specs.Edits.{item_added, item_duplicated};
+ghost use Rattle.std.specs.Prelude.{IfSome, IsTrue};
+ghost use Rattle.mix_model.specs.Items.{new_item, with_item, spec_of};
 ghost use Rattle.mix_graph.specs.Refused.{RefusedBy};
 ghost use Rattle.mix_graph.specs.Searched.{late_cause_in, popped, with_item_on};
 
@@ -32,6 +32,18 @@ fn new_item(id: ItemId, child: Serial, spec: &ItemSpec) -> Item
         locked: spec.locked,
         place: spec.place,
         blend: spec.blend,
+    }
+}
+
+#[tactic(auto, unfolding(mix_model::specs::Items::spec_of))]
+fn spec_of(item: &Item) -> ItemSpec
+    ensures { result ≡ spec_of item.now }
+{
+    ItemSpec {
+        enabled: item.enabled,
+        locked: item.locked,
+        place: item.place,
+        blend: item.blend,
     }
 }
 
@@ -152,7 +164,7 @@ impl Sources {
     }
 
     /// Whether the row of this serial is a scene or group.
-    fn is_parent(&self, serial: Serial) -> bool
+    pub fn is_parent(&self, serial: Serial) -> bool
         ensures { result ≡ row_passes self.now (λ r. has_items r.kind) serial }
     {
         match self.row(serial) {
@@ -166,6 +178,32 @@ impl Sources {
         ensures { result ≡ is_chained self.now from to }
     {
         chains_to(self.rows.as_slice(), 17, from, to)
+    }
+
+    /// Puts an item on top of a row, unless it makes a circle or the rows are then refused.
+    fn put_item(
+        &mut self,
+        alloc: Global,
+        parent: Serial,
+        child: Serial,
+        spec: &ItemSpec,
+    ) -> Result<ItemId, GraphFault>
+        requires there { IsTrue (is_row self.old parent) }
+        requires drawn { IfSome (row_of self.old parent) (λ r. r.next_item < 4294967295) }
+        ensures reply { IfOk result (λ id. IfSome (row_of self.old parent)
+            (λ r. id ≡ r.next_item)) }
+        ensures ok { OnOk result (self.new ≡ item_added parent child spec.now self.old) }
+        ensures err { OnErr result (self.new ≡ self.old) }
+        ensures refused { RefusedBy (item_late self.old parent child
+            (item_added parent child spec.now self.old)) result }
+    {
+        if self.is_chained(child, parent) {
+            return Err(GraphFault::Cycle);
+        }
+        let Some(at) = place_of(self.rows.as_slice(), parent) else {
+            unreachable!()
+        };
+        try_item(alloc, &mut self.rows, at, child, spec)
     }
 
     /// Puts an item on top of a scene or group.
@@ -188,12 +226,46 @@ impl Sources {
         if let Some(fault) = early {
             return Err(fault);
         }
-        if self.is_chained(child, parent) {
-            return Err(GraphFault::Cycle);
+        self.put_item(alloc, parent, child, spec)
+    }
+
+    /// Why a copy of an item is refused before any row is looked at as it would be.
+    #[tactic(auto, unfolding(mix_model::specs::Causes::copy_early))]
+    fn copy_early(&self, parent: Serial, id: ItemId, to: Serial) -> Option<GraphFault>
+        ensures { result ≡ copy_early self.now parent id to }
+    {
+        if self.lacks_item(parent, id) || !self.is_named(to) {
+            return Some(GraphFault::NotFound);
         }
-        let Some(at) = place_of(self.rows.as_slice(), parent) else {
+        if !self.is_parent(to) {
+            return Some(GraphFault::WrongKind);
+        }
+        None
+    }
+
+    /// Puts a copy of an item on top of a scene or group.
+    pub fn duplicate_item(
+        &mut self,
+        alloc: Global,
+        parent: Serial,
+        id: ItemId,
+        to: Serial,
+    ) -> Result<ItemId, GraphFault>
+        requires drawn { IfSome (row_of self.old to) (λ r. r.next_item < 4294967295) }
+        ensures reply { IfOk result (λ copy. IfSome (row_of self.old to)
+            (λ r. copy ≡ r.next_item)) }
+        ensures ok { OnOk result (self.new ≡ item_duplicated parent id to self.old) }
+        ensures err { OnErr result (self.new ≡ self.old) }
+        ensures refused { RefusedBy (copy_cause self.old parent id to
+            (item_duplicated parent id to self.old)) result }
+    {
+        let early = self.copy_early(parent, id, to);
+        if let Some(fault) = early {
+            return Err(fault);
+        }
+        let Some(item) = self.item(parent, id).copied() else {
             unreachable!()
         };
-        try_item(alloc, &mut self.rows, at, child, spec)
+        self.put_item(alloc, to, item.child, &spec_of(&item))
     }
 }

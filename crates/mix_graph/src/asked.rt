@@ -4,8 +4,12 @@ ghost use Rattle.std.specs.Prelude.{slice_index_or, length};
 ghost use Rattle.mix_model.specs.Lookups.{row_of, items_of};
 ghost use Rattle.mix_model.specs.Holders.{is_named, find_named};
 ghost use Rattle.mix_model.specs.Views.{IsView};
+ghost use Rattle.std.specs.Prelude.{IsTrue};
+ghost use Rattle.mix_model.specs.Rows.{serials_of};
+ghost use Rattle.mix_graph.specs.Asked.{is_next};
 
 use crate::Graph;
+use crate::search::serial_after;
 use crate::sources::Channel;
 use mix_base::{Serial, Text};
 use mix_model::{Item, RowView};
@@ -70,6 +74,13 @@ impl Graph {
         ensures reply { result ≡ slice_get self.now.present.inputs index }
     {
         self.sources.input_at(index)
+    }
+
+    /// The least serial of a row above this one, none where there is none.
+    pub fn row_after(&self, serial: Serial) -> Option<Serial>
+        ensures reply { IsTrue (is_next serial (serials_of self.now.present.rows) result) }
+    {
+        serial_after(self.sources.rows(), serial)
     }
 
     /// An item of a row, by its index from the bottom, counted from 0.

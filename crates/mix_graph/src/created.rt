@@ -16,7 +16,7 @@ use std::alloc::Global;
 
 /// A new source.
 #[tactic(auto, unfolding(mix_model::specs::Rows::new_row, mix_model::specs::Values::new_sound))]
-fn new_row(alloc: Global, serial: Serial, name: Name, kind: Kind, settings: Settings) -> Row
+pub fn new_row(alloc: Global, serial: Serial, name: Name, kind: Kind, settings: Settings) -> Row
     ensures { result ≡ new_row serial name kind settings new_sound }
 {
     Row {
@@ -72,7 +72,7 @@ pub fn reserve_source(
 }
 
 /// Takes the last row away.
-fn drop_last(rows: &mut Vec<Row>)
+pub fn drop_last(rows: &mut Vec<Row>)
     ensures rows { rows.new.items ≡ take (vec_len rows.old - 1) rows.old.items }
 {
     let _ = rows.pop();

@@ -7,7 +7,7 @@ ghost use Rattle.mix_model.specs.Holders.{has_name, is_named, names};
 ghost use Rattle.mix_model.specs.Values.{is_place, is_sound, are_settings};
 ghost use Rattle.mix_model.specs.Marks.{edited};
 ghost use Rattle.mix_model.specs.Edits.{row_changed, item_removed, item_enabled, item_locked};
-ghost use Rattle.mix_model.specs.Edits.{item_placed, input_set, renamed, source_removed};
+ghost use Rattle.mix_model.specs.Edits.{item_placed, item_moved, input_set, renamed, source_removed};
 ghost use Rattle.mix_graph.specs.RowEdits.{row_edited};
 ghost use Rattle.mix_graph.specs.Refused.{is_missing, lacks_item};
 
@@ -31,7 +31,7 @@ impl Graph {
         ensures { self.new ≡ edited (row_changed serial (row_edited edit)) self.old }
     {
         self.sources.edit_row(self.alloc, serial, edit);
-        self.settle();
+        self.tally.settle(&mut self.sources);
     }
 
     /// Takes an item out of its scene or group.
@@ -78,6 +78,21 @@ impl Graph {
             return Err(Missing);
         }
         self.edit_row(parent, RowEdit::Change(item, ItemEdit::Locked(locked)));
+        Ok(())
+    }
+
+    /// Moves an item to an index of its scene or group, counted from 0 at the bottom; past the top
+    /// it comes to lie on top.
+    #[tactic(auto, unfolding(mix_model::specs::Edits::item_moved))]
+    pub fn set_index(&mut self, parent: Serial, item: ItemId, index: u32) -> Result<(), Missing>
+        ensures ok { OnOk result (self.new ≡ edited (item_moved parent item index) self.old) }
+        ensures err { OnErr result (self.new ≡ self.old) }
+        ensures missing { IsErr result ↔ IsTrue (lacks_item self.old.present parent item) }
+    {
+        if self.sources.lacks_item(parent, item) {
+            return Err(Missing);
+        }
+        self.edit_row(parent, RowEdit::Move(item, index));
         Ok(())
     }
 
@@ -164,7 +179,7 @@ impl Graph {
             return Err(Missing);
         }
         self.sources.remove_source(self.alloc, serial);
-        self.settle();
+        self.tally.settle(&mut self.sources);
         Ok(())
     }
 }

@@ -8,17 +8,15 @@ ghost use Rattle.mix_model.specs.Lookups.{row_of, named_by};
 ghost use Rattle.mix_model.specs.Holders.{is_named, find_named};
 ghost use Rattle.mix_model.specs.Walks.{is_active};
 ghost use Rattle.mix_model.specs.Views.{IsView};
-ghost use Rattle.mix_model.specs.Marks.{edited, actions_begun, settled_by, was_active};
+ghost use Rattle.mix_model.specs.Marks.{edited, actions_begun, was_active, changes_by};
 ghost use Rattle.mix_model.specs.Edits.{scene_created, channel_set, clock_set, empty_graph};
 ghost use Rattle.mix_model.specs.Causes.{scene_cause};
-ghost use Rattle.mix_graph.specs.Settling.{settled};
 ghost use Rattle.mix_graph.specs.Refused.{RefusedBy, are_limits, may_be_set, is_missing};
 
-use crate::kept::Stood;
-use crate::settle::write_marks;
 use crate::sources::Sources;
-use mix_base::{Limits, Name, NoMemory, Serial, Text};
-use mix_model::{GraphFault, RowView};
+use crate::tally::Tally;
+use mix_base::{Limits, Name, Serial};
+use mix_model::{Change, GraphFault};
 use std::alloc::Global;
 use std::marker::Model;
 
@@ -32,43 +30,18 @@ pub struct Missing;
 pub struct Graph {
     pub(crate) alloc: Global,
     pub(crate) sources: Sources,
-    pub(crate) begun: Vec<Stood>,
-    pub(crate) active: Vec<bool>,
-    pub(crate) showing: Vec<bool>,
+    pub(crate) tally: Tally,
 }
 
 impl Model for Graph {
-    ghost use Rattle.std.specs.Prelude.{vec_capacity};
     ghost use Rattle.mix_model.specs.Marks.{GraphModel};
-    ghost use Rattle.mix_graph.specs.Settling.{Kept};
+    ghost use Rattle.mix_graph.specs.Settling.{IsTold};
 
     ghost Value = { GraphModel };
 
-    ghost view = { λ g. record { begun = g.begun.items; present = g.sources } };
+    ghost view = { λ g. record { begun = g.tally.begun; present = g.sources } };
 
-    ghost invariant = { λ g.
-        Kept g.sources.rows g.active.items g.showing.items (vec_capacity g.begun) };
-}
-
-/// Takes room for the flags and the mark of one row more.
-fn reserve_marks(
-    active: &mut Vec<bool>,
-    showing: &mut Vec<bool>,
-    begun: &mut Vec<Stood>,
-) -> Result<(), NoMemory>
-    ensures active { active.new.items ≡ active.old.items }
-    ensures showing { showing.new.items ≡ showing.old.items }
-    ensures begun { begun.new.items ≡ begun.old.items }
-    ensures active_room { OnOk result (vec_len active.new < vec_capacity active.new) }
-    ensures showing_room { OnOk result (vec_len showing.new < vec_capacity showing.new) }
-    ensures begun_room { OnOk result (vec_len active.old < vec_capacity begun.new) }
-    ensures keeps { vec_capacity begun.old ≤ vec_capacity begun.new }
-{
-    let rows = active.len();
-    active.reserve(1)?;
-    showing.reserve(1)?;
-    begun.reserve(rows + 1)?;
-    Ok(())
+    ghost invariant = { λ g. IsTold g.tally g.sources };
 }
 
 impl Graph {
@@ -82,18 +55,8 @@ impl Graph {
         Graph {
             alloc,
             sources: Sources::new(alloc),
-            begun: Vec::new(alloc),
-            active: Vec::new(alloc),
-            showing: Vec::new(alloc),
+            tally: Tally::new(alloc),
         }
-    }
-
-    /// What stands is settled against the marks of when the action began.
-    pub(crate) fn settle(&mut self)
-        ensures state { self.new ≡ settled self.old }
-    {
-        self.sources
-            .settle(self.begun.as_slice(), self.active.as_mut_slice());
     }
 
     /// A scene, last in the registry.
@@ -105,16 +68,16 @@ impl Graph {
         ensures refused { RefusedBy
             (scene_cause self.old.present name (scene_created name self.old.present)) result }
     {
-        let reserved = reserve_marks(&mut self.active, &mut self.showing, &mut self.begun);
-        let Ok(()) = reserved else {
+        let Ok(()) = self.tally.grow() else {
             return Err(GraphFault::NoMemory);
         };
         match self.sources.create_scene(self.alloc, name) {
-            Err(fault) => Err(fault),
+            Err(fault) => {
+                self.tally.cut(self.sources.rows().len());
+                Err(fault)
+            }
             Ok(serial) => {
-                self.active.push_reserved(false);
-                self.showing.push_reserved(false);
-                self.settle();
+                self.tally.settle(&mut self.sources);
                 Ok(serial)
             }
         }
@@ -138,7 +101,7 @@ impl Graph {
             return Err(Missing);
         }
         self.sources.set_channel(channel, (first, second));
-        self.settle();
+        self.tally.settle(&mut self.sources);
         Ok(())
     }
 
@@ -150,20 +113,22 @@ impl Graph {
         ensures state { self.new ≡ edited (clock_set clock) self.old }
     {
         self.sources.set_clock(clock);
-        self.settle();
+        self.tally.settle(&mut self.sources);
     }
 
     /// An action begins: what changes is told against what stands now.
     pub fn begin_changes(&mut self)
         ensures state { self.new ≡ actions_begun self.old }
     {
-        self.sources.flag_active(self.active.as_mut_slice());
-        self.sources.flag_showing(self.showing.as_mut_slice());
-        write_marks(
-            self.sources.rows(),
-            self.active.as_slice(),
-            self.showing.as_slice(),
-            &mut self.begun,
-        );
+        self.tally.begin(&self.sources);
+    }
+
+    /// What has changed since the action began, for all rows: first who became active or no longer
+    /// is, and then who began to show or no longer does.
+    pub fn changes(&self) -> &[Change]
+        ensures reply { result.now
+            ≡ changes_by self.now.begun self.now.present self.now.present.rows }
+    {
+        self.tally.changes()
     }
 }

@@ -25,7 +25,7 @@ impl Graph {
         match self.sources.hold(serial) {
             Err(fault) => Err(fault),
             Ok(id) => {
-                self.settle();
+                self.tally.settle(&mut self.sources);
                 Ok(id)
             }
         }
@@ -42,7 +42,7 @@ impl Graph {
         match self.sources.watch(serial) {
             Err(fault) => Err(fault),
             Ok(id) => {
-                self.settle();
+                self.tally.settle(&mut self.sources);
                 Ok(id)
             }
         }
@@ -59,7 +59,7 @@ impl Graph {
             return Err(Missing);
         }
         self.sources.release_hold(id);
-        self.settle();
+        self.tally.settle(&mut self.sources);
         Ok(())
     }
 
@@ -74,7 +74,7 @@ impl Graph {
             return Err(Missing);
         }
         self.sources.drop_watch(id);
-        self.settle();
+        self.tally.settle(&mut self.sources);
         Ok(())
     }
 
@@ -89,7 +89,7 @@ impl Graph {
             return Err(Missing);
         }
         self.sources.release_frame(number);
-        self.settle();
+        self.tally.settle(&mut self.sources);
         Ok(())
     }
 
@@ -105,7 +105,7 @@ impl Graph {
             return Err(Missing);
         }
         self.sources.set_preview(to);
-        self.settle();
+        self.tally.settle(&mut self.sources);
         Ok(())
     }
 

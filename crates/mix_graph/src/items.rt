@@ -3,8 +3,8 @@ ghost use Rattle.std.specs.Prelude.{◌≡◌, ◌<◌, IsTrue, IfOk, IfSome, On
 ghost use Rattle.mix_model.specs.Lookups.{row_of};
 ghost use Rattle.mix_model.specs.Values.{is_place};
 ghost use Rattle.mix_model.specs.Marks.{edited};
-ghost use Rattle.mix_model.specs.Causes.{item_cause};
-ghost use Rattle.mix_model.specs.Edits.{item_added};
+ghost use Rattle.mix_model.specs.Causes.{item_cause, copy_cause};
+ghost use Rattle.mix_model.specs.Edits.{item_added, item_duplicated};
 ghost use Rattle.mix_graph.specs.Refused.{RefusedBy};
 
 use crate::Graph;
@@ -32,8 +32,32 @@ impl Graph {
         match self.sources.add_item(self.alloc, parent, child, &spec) {
             Err(fault) => Err(fault),
             Ok(id) => {
-                self.settle();
+                self.tally.settle(&mut self.sources);
                 Ok(id)
+            }
+        }
+    }
+
+    /// Puts a copy of an item on top of a scene or group, under an id of its own.
+    pub fn duplicate_item(
+        &mut self,
+        parent: Serial,
+        item: ItemId,
+        to: Serial,
+    ) -> Result<ItemId, GraphFault>
+        requires drawn { IfSome (row_of self.old.present to) (λ r. r.next_item < 4294967295) }
+        ensures reply { IfOk result (λ copy. IfSome (row_of self.old.present to)
+            (λ r. copy ≡ r.next_item)) }
+        ensures ok { OnOk result (self.new ≡ edited (item_duplicated parent item to) self.old) }
+        ensures err { OnErr result (self.new ≡ self.old) }
+        ensures refused { RefusedBy (copy_cause self.old.present parent item to
+            (item_duplicated parent item to self.old.present)) result }
+    {
+        match self.sources.duplicate_item(self.alloc, parent, item, to) {
+            Err(fault) => Err(fault),
+            Ok(copy) => {
+                self.tally.settle(&mut self.sources);
+                Ok(copy)
             }
         }
     }

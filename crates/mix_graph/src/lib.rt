@@ -4,23 +4,31 @@
 mod added;
 mod asked;
 mod created;
+mod creating;
+mod destroyed;
 mod edits;
+mod frames;
 mod graph;
 mod held;
 mod held_by;
 mod holds;
+mod inputs;
 mod items;
 mod kept;
 mod looks;
+mod moved;
 mod reached;
 mod refused;
 mod removed;
 mod row_edit;
 mod search;
 mod settle;
+mod shown;
 mod sources;
+mod tally;
 #[cfg(test)]
 mod tests;
+mod told;
 
 pub use edits::Rename;
 pub use graph::{Graph, Missing};

@@ -5,6 +5,7 @@ ghost use Rattle.mix_model.specs.declared.row.Row.{Row};
 ghost use Rattle.mix_model.specs.Rows.{has_id};
 ghost use Rattle.mix_graph.specs.RowEdits.{item_edited, row_edited};
 
+use crate::moved::move_to;
 use mix_base::{ItemId, ListOf, Name};
 use mix_model::{Blend, Item, Place, Row, Settings, Sound};
 use std::alloc::Global;
@@ -23,6 +24,8 @@ pub enum ItemEdit {
 pub enum RowEdit {
     /// An item goes.
     Remove(ItemId),
+    /// An item comes to lie at an index.
+    Move(ItemId, u32),
     /// An item is changed.
     Change(ItemId, ItemEdit),
     Set(Settings, Sound),
@@ -86,7 +89,7 @@ pub fn items_taken(alloc: Global, row: &mut Row) -> Vec<Item>
 }
 
 /// Edits a row. It takes no memory.
-#[tactic(auto, unfolding(mix_model::specs::Items::without_item, mix_model::specs::Items::with_item_changed))]
+#[tactic(auto, unfolding(mix_model::specs::Items::without_item, mix_model::specs::Items::with_item_changed, mix_model::specs::Items::with_item_at))]
 pub fn edit_row(alloc: Global, row: &mut Row, edit: RowEdit)
     ensures { row.new ≡ row_edited edit row.old }
 {
@@ -94,6 +97,11 @@ pub fn edit_row(alloc: Global, row: &mut Row, edit: RowEdit)
         RowEdit::Remove(id) => {
             let mut items = items_taken(alloc, row);
             take_out(&mut items, id);
+            row.items = ListOf::from_vec(items);
+        }
+        RowEdit::Move(id, index) => {
+            let mut items = items_taken(alloc, row);
+            move_to(&mut items, id, index as usize);
             row.items = ListOf::from_vec(items);
         }
         RowEdit::Change(id, edit) => {

@@ -3,7 +3,9 @@ ghost use Rattle.std.specs.Prelude.{◌≡◌, ◌==◌, ◌≤◌, ◌<◌, ◌
 ghost use Rattle.std.specs.Prelude.{None, IfSome, IfNone};
 ghost use Rattle.std.specs.List.{HoldsAt};
 ghost use Rattle.mix_model.specs.Sets.{has};
-ghost use Rattle.mix_model.specs.Rows.{is_at, has_items};
+ghost use Rattle.std.specs.Prelude.{IsTrue};
+ghost use Rattle.mix_model.specs.Rows.{is_at, has_items, serials_of};
+ghost use Rattle.mix_graph.specs.Asked.{is_next, nearer};
 ghost use Rattle.mix_model.specs.Ranks.{rank_by, weight_by};
 ghost use Rattle.mix_model.specs.Walks.{leads};
 ghost use Rattle.mix_graph.specs.Searched.{next_in, inside_in, flagged_also, chained_in};
@@ -178,4 +180,31 @@ pub fn chains_to(rows: &[Row], rounds: u32, from: Serial, to: Serial) -> bool
         }
     }
     false
+}
+
+/// The nearer of what was found and of this serial, where it is above the first.
+fn nearer(above: Serial, found: Option<Serial>, here: Serial) -> Option<Serial>
+    ensures { result ≡ nearer above found here }
+{
+    match found {
+        None => { if here.0 <= above.0 { None } else { Some(here) } }
+        Some(next) => {
+            if here.0 <= above.0 || next.0 <= here.0 {
+                Some(next)
+            } else {
+                Some(here)
+            }
+        }
+    }
+}
+
+/// The least serial of a row above this one.
+pub fn serial_after(rows: &[Row], serial: Serial) -> Option<Serial>
+    ensures { IsTrue (is_next serial (serials_of rows.now) result) }
+{
+    let mut next: Option<Serial> = None;
+    for row in rows {
+        next = nearer(serial, next, row.serial);
+    }
+    next
 }

@@ -45,7 +45,7 @@ fn write_numbers(rows: &mut Vec<Row>, marks: &[Stood], clock: u64, active: &[boo
 }
 
 /// Puts the rows whose flag is on at the end of the dying list.
-fn push_flagged(rows: &[Row], flags: &[bool], dying: &mut Vec<Serial>)
+pub fn push_flagged(rows: &[Row], flags: &[bool], dying: &mut Vec<Serial>)
     requires each { length flags.now ≡ length rows.now }
     requires room { length dying.old.items + length (flagged rows.now flags.now)
         ≤ vec_capacity dying.old }

@@ -1,5 +1,5 @@
 -- what is taken back was never there
-use Rattle.std.proofs.Common.{◌≡◌, ◌∙◌}
+use Rattle.std.proofs.Common.{◌∙◌}
 use Rattle.mix_graph.proofs.ChangeLemmas.{taken_back, put_drawn, put_within, some_row}
 use Rattle.mix_graph.proofs.added.try_item.Goals as goal
 

@@ -1,17 +1,21 @@
 -- the edit leaves the number of rows, and the sources are settled
-use Rattle.mix_model.specs.Items.{with_item}
+use Rattle.std.proofs.Common.{sym, ◌∙◌}
 use Rattle.mix_model.specs.Marks.{edited}
+use Rattle.mix_model.specs.Items.{with_item}
 use Rattle.mix_model.specs.Edits.{item_added}
-use Rattle.mix_graph.proofs.KeptLemmas.{kept_same}
 use Rattle.mix_graph.proofs.ChangeLemmas.{changed_length}
 use Rattle.mix_graph.proofs.graph.Graph.add_item.Goals as goal
 
-pub invariant_of-self-in-Ok : goal.invariant_of-self-in-Ok
+pub settle-requires : goal.settle-requires
 unfolding item_added
-invariant_of-self-in-Ok c = rw c.in-Ok.ensures.ok (kept_same _ _ _ _ _ c.self.invariant
-    (changed_length c.args.parent (with_item c.args.child c.args.spec) c.self.inside.sources))
+settle-requires c = rw c.in-Ok.ensures.ok (c.self.invariant.count
+    ∙ sym (changed_length c.args.parent (with_item c.args.child c.args.spec) c.self.inside.sources))
 
 pub returns-in-Ok-clause-ok : goal.returns-in-Ok-clause-ok
 unfolding edited
-returns-in-Ok-clause-ok c =
-    rw (c.settle.ensures.state, ← c.self.view_is, c.in-Ok.ensures.ok)
+returns-in-Ok-clause-ok c = rw (
+  c.settle.ensures.state,
+  c.settle.ensures.begun,
+  ← c.self.view_is,
+  c.in-Ok.ensures.ok,
+)

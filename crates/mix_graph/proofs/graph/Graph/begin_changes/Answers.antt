@@ -1,28 +1,7 @@
 -- the marks are those of what stands
-use Rattle.std.proofs.Common.{arith}
-use Rattle.std.proofs.lemmas.Grind.{common_steps}
 use Rattle.mix_model.specs.Marks.{actions_begun}
-use Rattle.mix_graph.proofs.KeptLemmas.{marked_all, all_written}
 use Rattle.mix_graph.proofs.graph.Graph.begin_changes.Goals as goal
 
 pub returns : goal.returns
 unfolding actions_begun
-returns c =
-    let active = all_written c.flag_active.new.flags c.self.inside.active.items
-    c.self.inside.active.len (grind (arith, common_steps)) (grind (arith, common_steps)) in
-    let showing = all_written c.flag_showing.new.flags c.self.inside.showing.items
-    c.self.inside.showing.len (grind (arith, common_steps)) (grind (arith, common_steps)) in
-    record {
-      state = rw (
-        ← c.self.view_is,
-        c.write_marks.ensures.items,
-        c.rows.ensures.value,
-        c.as_slice.ensures.value,
-        c.as_slice-2.ensures.value,
-        active,
-        showing,
-        c.flag_active.ensures,
-        c.flag_showing.ensures,
-        marked_all c.self.inside.sources,
-      );
-    }
+returns c = record { state = rw (c.begin.ensures.begun, ← c.self.view_is) }

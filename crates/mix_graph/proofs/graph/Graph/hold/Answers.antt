@@ -3,11 +3,15 @@ use Rattle.mix_model.specs.Marks.{edited}
 use Rattle.mix_model.specs.Edits.{hold_made}
 use Rattle.mix_graph.proofs.graph.Graph.hold.Goals as goal
 
-pub invariant_of-self-in-Ok : goal.invariant_of-self-in-Ok
+pub settle-requires : goal.settle-requires
 unfolding hold_made
-invariant_of-self-in-Ok c = rw c.in-Ok.ensures.ok c.self.invariant
+settle-requires c = rw c.in-Ok.ensures.ok c.self.invariant.count
 
 pub returns-in-Ok-clause-ok : goal.returns-in-Ok-clause-ok
 unfolding edited
-returns-in-Ok-clause-ok c =
-    rw (c.settle.ensures.state, ← c.self.view_is, c.in-Ok.ensures.ok)
+returns-in-Ok-clause-ok c = rw (
+  c.settle.ensures.state,
+  c.settle.ensures.begun,
+  ← c.self.view_is,
+  c.in-Ok.ensures.ok,
+)

@@ -1,12 +1,9 @@
 -- there is no row
-use Rattle.std.proofs.Common.{ap}
-use Rattle.mix_model.specs.State.{GraphState}
+use Rattle.std.proofs.Common.{refl}
 use Rattle.mix_model.specs.Edits.{empty_graph}
-use Rattle.mix_graph.proofs.KeptLemmas.{kept_none}
 use Rattle.mix_graph.proofs.graph.Graph.new.Goals as goal
 
 pub invariant_of-result : goal.invariant_of-result
 unfolding empty_graph
-invariant_of-result c = kept_none _ _ _ _
-    (ap (λ (g : GraphState). g.rows) c.new.ensures.value) c.new-3.ensures.items
-    c.new-4.ensures.items
+invariant_of-result c = rw (c.new-2.ensures.value, c.new.ensures.value)
+    (record { count = refl; changes = refl })

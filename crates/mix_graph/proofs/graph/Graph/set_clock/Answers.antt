@@ -3,12 +3,17 @@ use Rattle.mix_model.specs.Marks.{edited}
 use Rattle.mix_model.specs.Edits.{clock_set}
 use Rattle.mix_graph.proofs.graph.Graph.set_clock.Goals as goal
 
-pub invariant_of-self : goal.invariant_of-self
+pub settle-requires : goal.settle-requires
 unfolding clock_set
-invariant_of-self c = rw c.set_clock.ensures c.self.invariant
+settle-requires c = rw c.set_clock.ensures c.self.invariant.count
 
 pub returns : goal.returns
 unfolding edited
 returns c = record {
-  state = rw (c.settle.ensures.state, ← c.self.view_is, c.set_clock.ensures);
+  state = rw (
+    c.settle.ensures.state,
+    c.settle.ensures.begun,
+    ← c.self.view_is,
+    c.set_clock.ensures,
+  );
 }

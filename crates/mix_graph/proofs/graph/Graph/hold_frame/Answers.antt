@@ -1,0 +1,17 @@
+-- the edit leaves the rows, and the sources are settled
+use Rattle.mix_model.specs.Marks.{edited}
+use Rattle.mix_model.specs.Edits.{frame_held}
+use Rattle.mix_graph.proofs.graph.Graph.hold_frame.Goals as goal
+
+pub settle-requires : goal.settle-requires
+unfolding frame_held
+settle-requires c = rw c.in-Ok.ensures.ok c.self.invariant.count
+
+pub returns-in-Ok-clause-ok : goal.returns-in-Ok-clause-ok
+unfolding edited
+returns-in-Ok-clause-ok c = rw (
+  c.settle.ensures.state,
+  c.settle.ensures.begun,
+  ← c.self.view_is,
+  c.in-Ok.ensures.ok,
+)

@@ -1,0 +1,22 @@
+-- the marks are those of what stands
+use Rattle.std.proofs.Common.{arith}
+use Rattle.std.proofs.lemmas.Grind.{common_steps}
+use Rattle.mix_graph.proofs.KeptLemmas.{marked_all, all_written}
+use Rattle.mix_graph.proofs.tally.Tally.begin.Goals as goal
+
+pub returns-clause-begun : goal.returns-clause-begun
+returns-clause-begun c =
+    let active = all_written c.flag_active.new.flags c.self.inside.active.items
+    c.self.inside.active.len (grind (arith, common_steps)) (grind (arith, common_steps)) in
+    let showing = all_written c.flag_showing.new.flags c.self.inside.showing.items
+    c.self.inside.showing.len (grind (arith, common_steps)) (grind (arith, common_steps)) in
+    rw (
+      c.write_marks.ensures.items,
+      c.rows.ensures.value,
+      c.as_slice.ensures.value,
+      c.as_slice-2.ensures.value,
+      active,
+      showing,
+      c.flag_active.ensures,
+      c.flag_showing.ensures,
+    ) (marked_all c.args.sources.now)
