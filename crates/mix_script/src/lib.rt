@@ -3,7 +3,7 @@
 
 mod bad_line;
 mod digits;
-mod escape;
+mod escaping;
 mod laws;
 mod length;
 mod number;
@@ -13,6 +13,7 @@ mod tests;
 mod write;
 
 pub use bad_line::BadLine;
+pub use escaping::escape;
 pub use laws::lines_and_actions_stand_one_to_one;
 pub use length::line_length;
 pub use read::read_line;

@@ -6,7 +6,7 @@ ghost use Rattle.mix_script.specs.Reading.{Reads};
 
 use crate::BadLine;
 use crate::digits::{read_bytes, read_challenge};
-use crate::escape::read_text;
+use crate::escaping::read_text;
 use crate::number::{read_connection, read_number};
 use mix_base::{Bytes32, ConnId};
 use mix_model::{Action, Message};

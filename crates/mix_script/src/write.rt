@@ -3,7 +3,7 @@ ghost use Rattle.std.specs.Prelude.{◌≡◌, ◌++◌, IfOk, codes, decimal, s
 ghost use Rattle.mix_script.specs.Lines.{line_text, arrival_text, said_text};
 
 use crate::digits::is_unset;
-use crate::escape::{escape, has_special};
+use crate::escaping::{escape, has_special};
 use mix_base::{Bytes, Bytes32, ConnId, NoMemory, Text};
 use mix_model::{Action, Message};
 use std::alloc::Global;

@@ -2,7 +2,7 @@
 use Rattle.std.specs.Prelude.{string_bytes}
 use Rattle.std.proofs.lemmas.Str.{IsUtf8-string_bytes}
 use Rattle.mix_script.proofs.ReadLemmas.{taken-text}
-use Rattle.mix_script.proofs.escape.take_text.Goals as goal
+use Rattle.mix_script.proofs.escaping.take_text.Goals as goal
 
 pub returns-in-Ok : goal.returns-in-Ok
 returns-in-Ok c =

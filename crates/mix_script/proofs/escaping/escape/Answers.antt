@@ -3,7 +3,7 @@ use Rattle.std.proofs.Common.{◌≡◌, ap, sym, ◌∙◌, subst, ℕ, List}
 use Rattle.std.specs.Str.{IsUtf8}
 use Rattle.mix_script.specs.Escapes.{escaped}
 use Rattle.mix_script.proofs.EscapeLemmas.{IsUtf8-escaped}
-use Rattle.mix_script.proofs.escape.escape.Goals as goal
+use Rattle.mix_script.proofs.escaping.escape.Goals as goal
 
 pub unreachable-requires : goal.unreachable-requires
 unreachable-requires c =

@@ -2,7 +2,7 @@
 use Rattle.std.proofs.Common.{◌≡◌, drop}
 use Rattle.mix_script.specs.Escapes.{unescaped, unescaped_after}
 use Rattle.mix_script.proofs.EscapeLemmas.{put_before}
-use Rattle.mix_script.proofs.escape.unescape.Given as goal
+use Rattle.mix_script.proofs.escaping.unescape.Given as goal
 
 abbrev pub invariant-loop-byte : goal.invariant-loop-byte
 invariant-loop-byte l =

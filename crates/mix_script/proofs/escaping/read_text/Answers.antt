@@ -4,7 +4,7 @@ use Rattle.std.specs.List.{list_any}
 use Rattle.mix_script.specs.Escapes.{unescaped, is_special}
 use Rattle.mix_script.proofs.EscapeLemmas.{unescaped-plain}
 use Rattle.mix_script.proofs.ReadLemmas.{reads-fault, some-from-ok}
-use Rattle.mix_script.proofs.escape.read_text.Goals as goal
+use Rattle.mix_script.proofs.escaping.read_text.Goals as goal
 
 pub returns-then-not-has_special : goal.returns-then-not-has_special
 returns-then-not-has_special c =

@@ -1,6 +1,6 @@
 -- one byte more is written
 use Rattle.mix_script.proofs.EscapeLemmas.{written-more}
-use Rattle.mix_script.proofs.escape.escape_bytes.Goals as goal
+use Rattle.mix_script.proofs.escaping.escape_bytes.Goals as goal
 
 pub loop-byte-preserved : goal.loop-byte-preserved
 loop-byte-preserved c =

@@ -16,9 +16,9 @@ pub fn has_special(text: &[u8]) -> bool
     text.iter().any(|b| *b == b'\\' || *b == b'\n')
 }
 
-/// A text as it stands in a line.
+/// A text as it stands in a line: a backslash is written twice, and a line feed as `\n`.
 pub fn escape(alloc: Global, text: &str) -> Result<String, NoMemory>
-    ensures { IfOk result (λ written. string_bytes written ≡ escaped text.now) }
+    ensures value { IfOk result (λ written. string_bytes written ≡ escaped text.now) }
 {
     let bytes = escape_bytes(alloc, text.as_bytes())?;
     match String::from_utf8(bytes) {

@@ -2,8 +2,8 @@
 use Rattle.std.proofs.Common.{◌≡◌, get_or, drop, ◌+◌, ◌∙◌, ap, ne_eqb, Some, false}
 use Rattle.mix_script.specs.Escapes.{unescaped, is_backslash, is_line_feed, meaning}
 use Rattle.mix_script.proofs.EscapeLemmas.{put_before, left-cons, next-meant, next-mark, next-plain}
-use Rattle.mix_script.proofs.escape.unescape.Goals as goal
-use Rattle.mix_script.proofs.escape.unescape.Goals.{then-marked+in-Some+in_ok-push, else-marked+then-byte-eq92, else-marked+else-byte-eq92+else-byte-eq10+in_ok-push-2}
+use Rattle.mix_script.proofs.escaping.unescape.Goals as goal
+use Rattle.mix_script.proofs.escaping.unescape.Goals.{then-marked+in-Some+in_ok-push, else-marked+then-byte-eq92, else-marked+else-byte-eq92+else-byte-eq10+in_ok-push-2}
 
 pub loop-byte-preserved : goal.loop-byte-preserved
 loop-byte-preserved c =
