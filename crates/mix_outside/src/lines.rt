@@ -1,5 +1,5 @@
 //! Reading line by line, through bytes that are read ahead.
-ghost use Rattle.std.specs.Prelude.{◌≡◌, ◌<◌, ◌≤◌, ◌++◌, [], length, position};
+ghost use Rattle.std.specs.Prelude.{◌≡◌, ◌≢◌, ◌<◌, ◌≤◌, ◌++◌, [], length, position};
 ghost use Rattle.mix_outside.specs.Faults.{Rose};
 ghost use Rattle.mix_outside.specs.Lines.{is_feed, lines_of};
 
@@ -88,6 +88,7 @@ impl ReadAhead {
         ensures end { S.Tells → result ≡ Met.Last → self.new ++ S.left source.new ≡ [] }
         ensures later { S.faults source.old ≤ S.faults source.new }
         ensures cause { result ≡ Met.Failed → Rose (S.faults source.old) (S.faults source.new) }
+        ensures steady { result ≢ Met.Failed → S.faults source.new ≡ S.faults source.old }
     {
         line.clear();
         'runs: loop {

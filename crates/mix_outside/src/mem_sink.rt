@@ -1,6 +1,6 @@
 //! A sink that keeps its bytes in memory, and fails exactly at the calls that it is told and past
 //! its room.
-ghost use Rattle.std.specs.Prelude.{◌≡◌, ◌≤◌, ◌↔◌, IfOk, IsTrue};
+ghost use Rattle.std.specs.Prelude.{◌≡◌, ◌≢◌, ◌≤◌, ◌↔◌, IfOk, IsTrue};
 ghost use Rattle.mix_outside.specs.Faults.{Rose};
 ghost use Rattle.mix_outside.specs.Bytes.{Puts};
 
@@ -77,6 +77,7 @@ impl Sink for MemSink {
         ensures bytes { Puts result piece.now self.old.held self.new.held }
         ensures later { self.old.faults ≤ self.new.faults }
         ensures cause { result ≡ Put.Failed → Rose self.old.faults self.new.faults }
+        ensures steady { result ≢ Put.Failed → self.new.faults ≡ self.old.faults }
     {
         let named = self.calls.begin();
         let fits = self.room - self.bytes.len();

@@ -1,5 +1,5 @@
 //! A source over bytes in memory, which fails exactly at the calls that it is told.
-ghost use Rattle.std.specs.Prelude.{◌≡◌, ◌<◌, ◌≤◌, ◌↔◌, ◌^◌, ◌-◌, IsTrue, length};
+ghost use Rattle.std.specs.Prelude.{◌≡◌, ◌≢◌, ◌<◌, ◌≤◌, ◌↔◌, ◌^◌, ◌-◌, IsTrue, length};
 ghost use Rattle.mix_outside.specs.Faults.{Rose};
 ghost use Rattle.mix_outside.specs.Bytes.{IsWithin, Takes};
 
@@ -80,6 +80,7 @@ impl Source for MemSource {
         ensures bytes { Takes result into.new self.old.left self.new.left }
         ensures later { self.old.faults ≤ self.new.faults }
         ensures cause { result ≡ Take.Failed → Rose self.old.faults self.new.faults }
+        ensures steady { result ≢ Take.Failed → self.new.faults ≡ self.old.faults }
     {
         if self.calls.begin() {
             self.faults = self.faults.saturating_add(1);

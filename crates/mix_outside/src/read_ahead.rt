@@ -1,5 +1,5 @@
 //! Bytes that are read ahead of need, so that a byte or a line costs no call of its source.
-ghost use Rattle.std.specs.Prelude.{◌≡◌, ◌<◌, ◌≤◌, ◌++◌, [], IfOk, drop, length};
+ghost use Rattle.std.specs.Prelude.{◌≡◌, ◌≢◌, ◌<◌, ◌≤◌, ◌++◌, [], IfOk, drop, length};
 ghost use Rattle.mix_outside.specs.Faults.{Rose};
 ghost use Rattle.mix_outside.specs.Bytes.{IsWithin, Takes};
 
@@ -65,6 +65,7 @@ impl ReadAhead {
         ensures ahead { StandsAhead result self.new }
         ensures later { S.faults source.old ≤ S.faults source.new }
         ensures cause { result ≡ Filled.Failed → Rose (S.faults source.old) (S.faults source.new) }
+        ensures steady { result ≢ Filled.Failed → S.faults source.new ≡ S.faults source.old }
     {
         if self.start < self.end {
             return Filled::More;
@@ -103,6 +104,7 @@ impl ReadAhead {
             (self.old ++ S.left source.old) (self.new ++ S.left source.new) }
         ensures later { S.faults source.old ≤ S.faults source.new }
         ensures cause { result ≡ Take.Failed → Rose (S.faults source.old) (S.faults source.new) }
+        ensures steady { result ≢ Take.Failed → S.faults source.new ≡ S.faults source.old }
     {
         match self.fill(source) {
             Filled::More => {}

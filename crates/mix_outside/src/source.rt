@@ -1,5 +1,5 @@
 //! What bytes are read from.
-ghost use Rattle.std.specs.Prelude.{◌≡◌, ◌<◌, ◌≤◌, List, ℕ, length};
+ghost use Rattle.std.specs.Prelude.{◌≡◌, ◌≢◌, ◌<◌, ◌≤◌, List, ℕ, length};
 ghost use Rattle.mix_outside.specs.Faults.{Rose};
 ghost use Rattle.mix_outside.specs.Bytes.{IsWithin, Takes};
 
@@ -22,7 +22,8 @@ pub trait Source {
     /// The bytes that are left, where it tells them.
     ghost left: { Self → List ℕ };
 
-    /// How often it failed; the count never falls, and stays at its last value, 2^64 − 1.
+    /// How often it failed; the count rises at a failure alone, and stays at its last value,
+    /// 2^64 − 1.
     ghost faults: { Self → ℕ };
 
     /// Reads some bytes into the front of a slice that isn't empty.
@@ -31,5 +32,6 @@ pub trait Source {
         ensures within { IsWithin result (length into.old) }
         ensures bytes { Tells → Takes result into.new (left self.old) (left self.new) }
         ensures later { faults self.old ≤ faults self.new }
-        ensures cause { result ≡ Take.Failed → Rose (faults self.old) (faults self.new) };
+        ensures cause { result ≡ Take.Failed → Rose (faults self.old) (faults self.new) }
+        ensures steady { result ≢ Take.Failed → faults self.new ≡ faults self.old };
 }
