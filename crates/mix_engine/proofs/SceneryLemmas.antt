@@ -1,0 +1,69 @@
+-- What holds of the scenes of every mixer holds with one scene more.
+use Rattle.std.proofs.Common.{◌≡◌, ℕ, zero, suc, ◌+◌, ◌<◌, ◌≤◌, List, [], ◌∷◌, ◌++◌, length, All}
+use Rattle.std.proofs.Common.{Result, Ok, Err, OnOk, OnErr, refl, sym, ap, ◌∙◌, subst, arith}
+use Rattle.std.proofs.Common.{length-append}
+use Rattle.mix_model.specs.declared.fault.GraphFault.{GraphFault}
+use Rattle.mix_model.specs.State.{GraphState}
+use Rattle.mix_model.specs.Edits.{scene_created}
+use Rattle.mix_model.specs.Marks.{GraphModel, actions_begun, edited, settled_by}
+use Rattle.mix_engine.specs.Scenery.{HasScenes}
+
+-- each is below a number, and so is that number below the next one
+all_below : (xs : List ℕ) (n : ℕ) → All (λ x. x < n) xs → All (λ x. x < n + 1) (xs ++ n ∷ [])
+all_below [] n below zero d within = omega arith
+all_below [] n below (suc k) d within = absurd (omega arith)
+all_below (x ∷ xs) n below zero d within =
+    let first : x < n = below zero d (omega arith) in omega arith
+all_below (x ∷ xs) n below (suc k) d within =
+    all_below xs n (λ j e h. below (suc j) e (omega arith)) k d (omega arith)
+
+-- and there are fewer of them than that
+one_longer : (xs : List ℕ) (n : ℕ) → length xs < n → length (xs ++ n ∷ []) < n + 1
+one_longer xs n few = let e = length-append xs (n ∷ []) in omega arith
+
+-- one scene more, settled
+made_scenes : (m : GraphModel) (name : List ℕ) → HasScenes m.present →
+    HasScenes (edited (scene_created name) (actions_begun m)).present
+unfolding edited actions_begun settled_by scene_created
+made_scenes m name has = record {
+  given = all_below m.present.scenes m.present.next_serial has.given;
+  few = one_longer m.present.scenes m.present.next_serial has.few;
+  preview = has.preview;
+}
+
+made_next : (m : GraphModel) (name : List ℕ) →
+    (edited (scene_created name) (actions_begun m)).present.next_serial ≡ m.present.next_serial + 1
+unfolding edited actions_begun settled_by scene_created
+made_next m name = refl
+
+begun_present : (m : GraphModel) → (actions_begun m).present ≡ m.present
+unfolding actions_begun
+begun_present m = refl
+
+-- an action of its own that makes a scene, or refuses to
+module _ (old begun new : GraphModel) (name : List ℕ) (begins : begun ≡ actions_begun old) where
+  pub scenes_kept : (result : Result ℕ GraphFault) →
+      OnOk result (new ≡ edited (scene_created name) begun) → OnErr result (new ≡ begun) →
+      HasScenes old.present → HasScenes new.present
+  scenes_kept (Ok serial) ok err has =
+      let e : edited (scene_created name) (actions_begun old) ≡ new =
+      ap (edited (scene_created name)) (sym begins) ∙ sym ok in
+      subst (λ (m : GraphModel). HasScenes m.present) e (made_scenes old name has)
+  scenes_kept (Err fault) ok err has =
+      let e : old.present ≡ new.present =
+      sym (begun_present old) ∙ sym (ap (λ (m : GraphModel). m.present) (err ∙ begins)) in
+      subst HasScenes e has
+
+  pub serial_grows : (result : Result ℕ GraphFault) →
+      OnOk result (new ≡ edited (scene_created name) begun) → OnErr result (new ≡ begun) →
+      new.present.next_serial ≤ old.present.next_serial + 1
+  serial_grows (Ok serial) ok err =
+      let e : new.present.next_serial ≡ old.present.next_serial + 1 =
+      ap (λ (m : GraphModel). m.present.next_serial)
+      (ok ∙ ap (edited (scene_created name)) begins) ∙ made_next old name in
+      omega arith
+  serial_grows (Err fault) ok err =
+      let e : new.present.next_serial ≡ old.present.next_serial =
+      ap (λ (m : GraphModel). m.present.next_serial) (err ∙ begins)
+      ∙ ap (λ (g : GraphState). g.next_serial) (begun_present old) in
+      omega arith

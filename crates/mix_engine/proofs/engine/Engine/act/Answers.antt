@@ -1,0 +1,32 @@
+use Rattle.std.proofs.Common.{sym, ap, ◌∙◌, subst, ◌++◌, ◌∷◌, []}
+use Rattle.mix_engine.specs.contracts.engine.Engine.{the_view}
+use Rattle.mix_engine.specs.Answers.{Agrees, answer_to}
+use Rattle.mix_engine.specs.Engines.{EngineModel, has_room}
+use Rattle.mix_engine.proofs.EngineLemmas.{engine_longer, answer_agrees}
+use Rattle.mix_engine.proofs.engine.Engine.act.Goals as goal
+
+-- one entry more keeps what ties the engine to its journal
+pub invariant_of-self-in-Ok-Some : goal.invariant_of-self-in-Ok-Some
+invariant_of-self-in-Ok-Some c = engine_longer (the_view c.self.inside) _ _ _
+    (record { from = c.args.from; action = c.args.action }) c.in-Ok-Some.spoken _ _
+    c.self.invariant.0 c.self.invariant.1 (rw c.in-Ok-Some.field-0-is at c.in-Ok-Some.ensures.reply)
+    c.in-Ok-Some.ensures.state c.in-Ok-Some.ensures.quiet c.in-Ok-Some.ensures.conns
+    c.in-Ok-Some.ensures.serials
+    (ap (λ (e : EngineModel). has_room e c.args.action) c.self.view_is
+    ∙ sym (c.has_room.ensures.value c.args.action c.line_length-line.ensures.value)
+    ∙ c.if-not-has_room.false)
+    c.line_length-line.ensures.value (c.push_reserved.ensures.items
+    ∙ ap (λ l. l ++ record { from = c.args.from; action = c.args.action } ∷ [])
+    c.in-Ok.ensures.items)
+
+-- the answer agrees with that entry
+pub returns-in-Ok-Some-clause-reply : goal.returns-in-Ok-Some-clause-reply
+returns-in-Ok-Some-clause-reply c =
+    subst (λ (e : EngineModel). Agrees c.answer.result (answer_to e.start e.journal c.args.action))
+    c.self.view_is (answer_agrees (the_view c.self.inside) _ _ c.push_reserved.new.self.items
+    (record { from = c.args.from; action = c.args.action }) c.in-Ok-Some.spoken _
+    c.self.invariant.0 (rw c.in-Ok-Some.field-0-is at c.in-Ok-Some.ensures.reply)
+    c.in-Ok-Some.ensures.quiet (c.push_reserved.ensures.items
+    ∙ ap (λ l. l ++ record { from = c.args.from; action = c.args.action } ∷ [])
+    c.in-Ok.ensures.items)
+    c.answer.ensures.reply c.answer.ensures.stopping c.answer.ensures.dying)

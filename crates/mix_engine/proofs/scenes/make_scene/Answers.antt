@@ -1,0 +1,34 @@
+use Rattle.std.proofs.Common.{◌∙◌, ap}
+use Rattle.mix_json.specs.Trees.{obj_of}
+use Rattle.mix_model.specs.Opening.{no_notes}
+use Rattle.mix_engine.specs.Stills.{studio_of}
+use Rattle.mix_engine.specs.SceneRequests.{creation_fields}
+use Rattle.mix_engine.proofs.CauseLemmas.{made_answer, made_studio, refused_by}
+use Rattle.mix_engine.proofs.CauseLemmas.{refused_answer, refused_studio}
+use Rattle.mix_engine.proofs.scenes.make_scene.Goals as goal
+
+-- a scene that is made: its answer, and what it leaves
+pub returns-in-Ok-clause-reply : goal.returns-in-Ok-clause-reply
+returns-in-Ok-clause-reply c =
+    made_answer (studio_of c.args.still c.args.graph.now.present) no_notes c.args.name _
+    c.in-Ok.ensures.refused (c.in_ok-answer.ensures.value
+    ∙ ap (λ n. obj_of (creation_fields n)) c.next_serial.ensures.reply)
+
+pub returns-in-Ok-clause-state : goal.returns-in-Ok-clause-state
+returns-in-Ok-clause-state c =
+    made_studio (studio_of c.args.still c.args.graph.now.present) no_notes c.args.name _
+    c.in-Ok.ensures.refused c.in-Ok.ensures.ok
+
+-- one that is refused
+pub returns-in-Some-clause-reply : goal.returns-in-Some-clause-reply
+returns-in-Some-clause-reply c =
+    let s = studio_of c.args.still c.args.graph.now.present in
+    refused_answer s _ _ (refused_by s no_notes c.args.name c.in-Err.fault _
+    c.in-Err.ensures.refused c.in-Some.ensures.value)
+
+pub returns-in-Some-clause-state : goal.returns-in-Some-clause-state
+returns-in-Some-clause-state c =
+    let s = studio_of c.args.still c.args.graph.now.present in
+    ap (studio_of c.args.still) c.in-Err.ensures.err
+    ∙ refused_studio s _ _ (refused_by s no_notes c.args.name c.in-Err.fault _
+    c.in-Err.ensures.refused c.in-Some.ensures.value)

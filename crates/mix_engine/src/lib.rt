@@ -1,0 +1,31 @@
+//! The engine: one step for each action, and a journal of all that was done.
+#![tactic(auto)]
+
+mod attendance;
+mod engine;
+mod fault;
+mod known;
+mod member;
+mod members;
+mod mixing;
+mod opening;
+mod own;
+mod request_type;
+mod requests;
+mod scenes;
+mod setup;
+mod spoken;
+mod still;
+#[cfg(test)]
+mod tests;
+
+pub use attendance::Attendance;
+pub use engine::Engine;
+pub use fault::{ActFault, Full};
+pub use member::Member;
+pub use mixing::Mixing;
+pub use own::Own;
+pub use request_type::RequestType;
+pub use setup::Setup;
+pub use spoken::Spoken;
+pub use still::Still;

@@ -1,0 +1,77 @@
+//! Requests: which of them are built, and what each is answered.
+ghost use Rattle.std.specs.Prelude.{◌≡◌, ◌<◌, ◌≤◌, ◌+◌, ◌^◌, [], IfOk, OnOk, OnErr, unwrap_or};
+ghost use Rattle.mix_model.specs.Opening.{no_notes};
+ghost use Rattle.mix_engine.specs.Requests.{done_with, requested};
+ghost use Rattle.mix_engine.specs.Requesting.{done_in, studio_after};
+ghost use Rattle.mix_engine.specs.Scenery.{HasScenes};
+ghost use Rattle.mix_engine.specs.Stills.{studio_of};
+
+use crate::scenes::{create_scene, scene_list};
+use crate::{RequestType, Still};
+use mix_base::{Json, NoMemory, Text};
+use mix_graph::Graph;
+use mix_model::{Ask, Done};
+use std::alloc::Global;
+
+/// What is done about a request, and nothing where it isn't built.
+pub fn answer(
+    alloc: Global,
+    graph: &mut Graph,
+    still: Still,
+    ask: Ask,
+) -> Result<Option<Done>, NoMemory>
+    requires serial { graph.old.present.next_serial < 4294967295 }
+    requires scenes { HasScenes graph.old.present }
+    requires program { still.program < 2 ^ 48 }
+    ensures reply { IfOk result (λ done. done
+        ≡ done_in (requested (studio_of still graph.old.present) no_notes ask)) }
+    ensures state { OnOk result (studio_of still graph.new.present
+        ≡ studio_after (studio_of still graph.old.present)
+        (requested (studio_of still graph.old.present) no_notes ask)) }
+    ensures scenes { HasScenes graph.new.present }
+    ensures grows { graph.new.present.next_serial ≤ graph.old.present.next_serial + 1 }
+    ensures err { OnErr result (graph.new.present ≡ graph.old.present) }
+{
+    let Ask { kind, id, body } = ask;
+    let kind = or_empty(alloc, kind)?;
+    match RequestType::of_text(kind.as_str()) {
+        RequestType::GetSceneList => {
+            let answer = scene_list(alloc, graph, still)?;
+            Ok(Some(done(kind, id, Ok(Some(Json::Obj(answer))))))
+        }
+        RequestType::CreateScene => {
+            let answer = create_scene(alloc, graph, still, &body)?;
+            Ok(Some(done(kind, id, answer)))
+        }
+        RequestType::NotBuilt => Ok(None),
+        RequestType::Unknown => Ok(Some(done(kind, id, Err(204)))),
+    }
+}
+
+fn or_empty(alloc: Global, kind: Option<Text>) -> Result<Text, NoMemory>
+    ensures value { IfOk result (λ text. text ≡ unwrap_or kind []) }
+{
+    match kind {
+        Some(kind) => Ok(kind),
+        None => Text::from_str(alloc, ""),
+    }
+}
+
+fn done(kind: Text, id: Option<Text>, answer: Result<Option<Json>, u16>) -> Done
+    ensures value { result ≡ done_with kind id answer }
+{
+    match answer {
+        Ok(response) => Done {
+            kind,
+            id,
+            status: 100,
+            response,
+        },
+        Err(status) => Done {
+            kind,
+            id,
+            status,
+            response: None,
+        },
+    }
+}

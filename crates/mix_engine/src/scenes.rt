@@ -1,0 +1,235 @@
+//! The requests on scenes.
+ghost use Rattle.std.specs.Prelude.{◌≡◌, ◌<◌, ◌≤◌, ◌+◌, ◌^◌, IfOk, OnOk, OnErr};
+ghost use Rattle.mix_json.specs.Trees.{obj_of, put_fields};
+ghost use Rattle.mix_graph.specs.Refused.{RefusedBy};
+ghost use Rattle.mix_model.specs.Causes.{scene_cause};
+ghost use Rattle.mix_model.specs.Edits.{scene_created};
+ghost use Rattle.mix_model.specs.Settle.{settle};
+ghost use Rattle.mix_model.specs.Opening.{no_notes};
+ghost use Rattle.mix_engine.specs.Effects.{name_or, needed_fields, new_name};
+ghost use Rattle.mix_engine.specs.Requests.{answer_in, studio_in};
+ghost use Rattle.mix_engine.specs.SceneRequests.{create_scene, creation_fields, entry_fields};
+ghost use Rattle.mix_engine.specs.SceneRequests.{name_at, scene_entries, scene_list};
+ghost use Rattle.mix_engine.specs.SceneRequests.{preview_fields, program_fields, scenes_fields};
+ghost use Rattle.mix_engine.specs.SceneRequests.{refusal, scene_made, scene_name};
+ghost use Rattle.mix_engine.specs.Scenery.{HasScenes};
+ghost use Rattle.mix_engine.specs.Stills.{studio_of};
+
+use crate::Still;
+use mix_base::{Json, JsonObj, Name, NameFault, NoMemory, Serial, uuid_text};
+use mix_graph::Graph;
+use mix_json::{Fields, Items, need_text};
+use mix_model::{Body, GraphFault};
+use std::alloc::Global;
+
+/// The fields of GetSceneList's answer.
+pub fn scene_list(alloc: Global, graph: &Graph, still: Still) -> Result<JsonObj, NoMemory>
+    requires serial { graph.now.present.next_serial < 4294967295 }
+    requires scenes { HasScenes graph.now.present }
+    requires program { still.program < 2 ^ 48 }
+    ensures value { IfOk result
+        (λ fields. fields ≡ obj_of (scene_list (studio_of still graph.now.present))) }
+{
+    let fields = with_preview(Fields::new(alloc), graph)?;
+    let fields = with_program(alloc, fields, graph, still.program)?;
+    let fields = with_scenes(alloc, fields, graph)?;
+    Ok(fields.into_obj())
+}
+
+/// With the preview: so far there is none.
+#[tactic(auto, unfolding(crate::specs::SceneRequests::preview_fields))]
+fn with_preview(fields: Fields, graph: &Graph) -> Result<Fields, NoMemory>
+    requires scenes { HasScenes graph.now.present }
+    ensures value { IfOk result
+        (λ all. all ≡ put_fields (preview_fields graph.now.present) fields) }
+{
+    let _ = graph;
+    fields
+        .null("currentPreviewSceneName")?
+        .null("currentPreviewSceneUuid")
+}
+
+/// With the program.
+#[tactic(auto, unfolding(crate::specs::SceneRequests::program_fields))]
+fn with_program(
+    alloc: Global,
+    fields: Fields,
+    graph: &Graph,
+    program: Serial,
+) -> Result<Fields, NoMemory>
+    requires program { program < 2 ^ 48 }
+    ensures value { IfOk result
+        (λ all. all ≡ put_fields (program_fields graph.now.present program) fields) }
+{
+    let uuid = uuid_text(alloc, program)?;
+    fields
+        .text("currentProgramSceneName", name_at(graph, program))?
+        .text("currentProgramSceneUuid", uuid.as_str())
+}
+
+/// With all scenes.
+fn with_scenes(alloc: Global, fields: Fields, graph: &Graph) -> Result<Fields, NoMemory>
+    requires serial { graph.now.present.next_serial < 4294967295 }
+    requires scenes { HasScenes graph.now.present }
+    ensures value { IfOk result
+        (λ all. all ≡ put_fields (scenes_fields graph.now.present) fields) }
+{
+    fields.list("scenes", scene_entries(alloc, graph)?)
+}
+
+/// The name of a row.
+#[tactic(auto, unfolding(crate::specs::SceneRequests::name_at))]
+fn name_at(graph: &Graph, serial: Serial) -> &str
+    ensures value { result.now ≡ name_at graph.now.present serial }
+{
+    match graph.row(serial) {
+        Some(row) => row.name.as_str(),
+        None => "",
+    }
+}
+
+/// All scenes in the order of the registry.
+fn scene_entries(alloc: Global, graph: &Graph) -> Result<Items, NoMemory>
+    requires serial { graph.now.present.next_serial < 4294967295 }
+    requires scenes { HasScenes graph.now.present }
+    ensures value { IfOk result
+        (λ items. items ≡ scene_entries graph.now.present 0 graph.now.present.scenes) }
+{
+    let mut items = Items::new(alloc);
+    let mut index = 0;
+    'scenes: while let Some(serial) = graph.scene_at(index) {
+        items.push_obj(scene_entry(alloc, graph, index, serial)?)?;
+        index += 1;
+    }
+    Ok(items)
+}
+
+/// A scene with its place in the list.
+fn scene_entry(alloc: Global, graph: &Graph, index: u32, serial: Serial) -> Result<Fields, NoMemory>
+    requires serial { serial < 2 ^ 48 }
+    ensures value { IfOk result (λ fields. fields
+        ≡ obj_of (entry_fields graph.now.present index serial)) }
+{
+    Fields::new(alloc)
+        .int("sceneIndex", i64::from(index))?
+        .text("sceneName", name_at(graph, serial))?
+        .text("sceneUuid", uuid_text(alloc, serial)?.as_str())
+}
+
+/// The name that a scene is to get.
+fn scene_name(body: &Body) -> Result<Name, u16>
+    ensures value { result ≡ scene_name body.now }
+{
+    match body {
+        Body::Fields(fields) => new_name(fields, "sceneName"),
+        Body::Absent | Body::Wrong => Err(301),
+    }
+}
+
+/// A name that a source is to get.
+#[tactic(auto, unfolding(crate::specs::Effects::new_name))]
+fn new_name(fields: &JsonObj, key: &str) -> Result<Name, u16>
+    ensures value { result ≡ new_name key.now fields.now }
+{
+    let text = need_text(fields, key)?;
+    match Name::read(text.bytes()) {
+        Ok(name) => Ok(name),
+        Err(NameFault::Empty) => Err(403),
+        Err(_) => Err(400),
+    }
+}
+
+/// Makes a scene, or gives the status that refuses it.
+#[tactic(auto, unfolding(crate::specs::SceneRequests::create_scene))]
+pub fn create_scene(
+    alloc: Global,
+    graph: &mut Graph,
+    still: Still,
+    body: &Body,
+) -> Result<Result<Option<Json>, u16>, NoMemory>
+    requires serial { graph.old.present.next_serial < 4294967295 }
+    requires scenes { HasScenes graph.old.present }
+    ensures reply { IfOk result (λ answer. answer
+        ≡ answer_in (create_scene (studio_of still graph.old.present) no_notes body.now)) }
+    ensures state { OnOk result (studio_of still graph.new.present
+        ≡ studio_in (studio_of still graph.old.present)
+        (create_scene (studio_of still graph.old.present) no_notes body.now)) }
+    ensures scenes { HasScenes graph.new.present }
+    ensures grows { graph.new.present.next_serial ≤ graph.old.present.next_serial + 1 }
+    ensures err { OnErr result (graph.new.present ≡ graph.old.present) }
+{
+    match scene_name(body) {
+        Ok(name) => make_scene(alloc, graph, still, name),
+        Err(status) => Ok(Err(status)),
+    }
+}
+
+/// Makes a scene of this name, or gives the status that refuses it. Its answer is made first.
+fn make_scene(
+    alloc: Global,
+    graph: &mut Graph,
+    still: Still,
+    name: Name,
+) -> Result<Result<Option<Json>, u16>, NoMemory>
+    requires serial { graph.old.present.next_serial < 4294967295 }
+    requires scenes { HasScenes graph.old.present }
+    ensures reply { IfOk result (λ answer. answer
+        ≡ answer_in (scene_made (studio_of still graph.old.present) no_notes name)) }
+    ensures state { OnOk result (studio_of still graph.new.present
+        ≡ studio_in (studio_of still graph.old.present)
+        (scene_made (studio_of still graph.old.present) no_notes name)) }
+    ensures scenes { HasScenes graph.new.present }
+    ensures grows { graph.new.present.next_serial ≤ graph.old.present.next_serial + 1 }
+    ensures err { OnErr result (graph.new.present ≡ graph.old.present) }
+{
+    let answer = scene_answer(alloc, graph.next_serial())?;
+    match add_scene(graph, name) {
+        Ok(_) => Ok(Ok(Some(Json::Obj(answer)))),
+        Err(fault) => match refusal(fault) {
+            Some(status) => Ok(Err(status)),
+            None => Err(NoMemory),
+        },
+    }
+}
+
+/// The status that a new scene is refused with.
+fn refusal(fault: GraphFault) -> Option<u16>
+    ensures value { result ≡ refusal fault }
+{
+    match fault {
+        GraphFault::Exists => Some(601),
+        GraphFault::NoMemory => None,
+        GraphFault::NotFound
+        | GraphFault::WrongKind
+        | GraphFault::Cycle
+        | GraphFault::Depth
+        | GraphFault::TooMany { .. } => Some(603),
+    }
+}
+
+/// The answer to who made a scene.
+fn scene_answer(alloc: Global, serial: Serial) -> Result<JsonObj, NoMemory>
+    requires serial { serial < 2 ^ 48 }
+    ensures value { IfOk result (λ fields. fields ≡ obj_of (creation_fields serial)) }
+{
+    let uuid = uuid_text(alloc, serial)?;
+    let fields = Fields::new(alloc).text("sceneUuid", uuid.as_str())?;
+    Ok(fields.into_obj())
+}
+
+/// A scene more, in an action of its own.
+#[tactic(auto, using(mix_model::proofs::MarkLemmas::marks_suffice), unfolding(mix_model::specs::Marks::actions_begun, mix_model::specs::Marks::edited))]
+fn add_scene(graph: &mut Graph, name: Name) -> Result<Serial, GraphFault>
+    requires serial { graph.old.present.next_serial < 4294967295 }
+    requires scenes { HasScenes graph.old.present }
+    ensures ok { OnOk result (graph.new.present
+        ≡ settle graph.old.present (scene_created name graph.old.present)) }
+    ensures err { OnErr result (graph.new.present ≡ graph.old.present) }
+    ensures refused { RefusedBy (scene_cause graph.old.present name
+        (scene_created name graph.old.present)) result }
+    ensures scenes { HasScenes graph.new.present }
+    ensures grows { graph.new.present.next_serial ≤ graph.old.present.next_serial + 1 }
+{
+    graph.begin_changes();
+    graph.create_scene(name)
+}
