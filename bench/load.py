@@ -1,0 +1,85 @@
+#!/usr/bin/env python3
+"""Measures the program on scripts of 100,000 and of 200,000 requests.
+
+    bench/load.py [PROGRAM]
+
+PROGRAM is crates/lenkhov/out/lenkhov unless it is named; `rt run` in crates/lenkhov builds it. Each
+script asks by turns for the list of scenes and for a scene. Only a few names are asked for, so a few
+scenes are made, and every later request for one is answered with 601. Prints for each script the
+lines in a second, the most memory, and at the end the ratio of the two times, which is 2 where the
+time for a request doesn't depend on how many came before. Ends with 1 where an answer is missing.
+"""
+
+import os
+import pathlib
+import subprocess
+import sys
+import tempfile
+import time
+
+HOME = pathlib.Path(__file__).resolve().parent.parent
+PROGRAM = HOME / "crates/lenkhov/out/lenkhov"
+COLLECTION = HOME / "examples/first.collection"
+SIZES = (100_000, 200_000)
+NAMES = 8
+
+
+def request(number):
+    if number % 2 == 0:
+        asked = f'"requestType":"GetSceneList","requestId":"{number}"'
+    else:
+        name = f"S{number // 2 % NAMES}"
+        data = f'"requestData":{{"sceneName":"{name}"}}'
+        asked = f'"requestType":"CreateScene","requestId":"{number}",{data}'
+    return f'<c1 {{"op":6,"d":{{{asked}}}}}\n'
+
+
+def write_script(path, requests):
+    with open(path, "w", encoding="ascii") as file:
+        file.write("+\n")
+        file.write('<c1 {"op":1,"d":{"rpcVersion":1,"eventSubscriptions":0}}\n')
+        file.writelines(map(request, range(requests)))
+
+
+def measure(program, folder, requests):
+    """The seconds and the most bytes of memory of one run, after a look at all that it wrote."""
+    script, output, record = (folder / name for name in ("script", "output", "record"))
+    write_script(script, requests)
+    words = [program, "replay", COLLECTION, script, record]
+    with open(output, "wb") as file:
+        began = time.monotonic()
+        run = subprocess.Popen(words, stdout=file)
+        _, ended, used = os.wait4(run.pid, 0)
+        seconds = time.monotonic() - began
+    status = os.waitstatus_to_exitcode(ended)
+    run.returncode = status
+    done = made = known = 0
+    with open(output, encoding="utf-8") as file:
+        for line in file:
+            done += 1
+            made += '"responseData":{"sceneUuid"' in line
+            known += '"code":601' in line
+    wanted = (0, requests + 2, NAMES, requests // 2 - NAMES)
+    if (status, done, made, known) != wanted:
+        found = f"status {status}, {done} lines, {made} scenes made, {known} names known"
+        sys.exit(f"{requests} requests: {found}; wanted are {wanted}")
+    return seconds, used.ru_maxrss * 1024
+
+
+def main():
+    program = pathlib.Path(sys.argv[1]) if len(sys.argv) > 1 else PROGRAM
+    if not program.is_file():
+        sys.exit(f"{program} isn't there: `rt run` in crates/lenkhov builds it")
+    times = []
+    with tempfile.TemporaryDirectory() as folder:
+        for requests in SIZES:
+            seconds, memory = measure(program, pathlib.Path(folder), requests)
+            times.append(seconds)
+            lines = (requests + 2) / seconds
+            print(f"{requests} requests: {seconds:.2f} s, {lines:,.0f} lines a second,"
+                  f" {memory / 2**20:.0f} MiB at most", flush=True)
+    print(f"ratio of the times: {times[1] / times[0]:.2f}")
+
+
+if __name__ == "__main__":
+    main()

@@ -1,0 +1,148 @@
+-- No more than so many bytes are read.
+use Rattle.std.proofs.Common.{◌≡◌, ℕ, ◌+◌, ◌-◌, ◌<◌, ◌≤◌, Bool, true, false, cond, nat_le, nat_lt}
+use Rattle.std.proofs.Common.{List, [], ◌∷◌, length, refl, sym, ap, ◌∙◌, arith, codes}
+use Rattle.std.proofs.Common.{Option, Some, None}
+use Rattle.std.proofs.lemmas.Bool.{lt-ltb, ltb-true, leb-true, leb-false}
+use Rattle.mix_outside.specs.Lines.{Lines, End, Cut, Whole, is_feed, onto, lines_of}
+use Rattle.mix_program.specs.Collections.{most_bytes, collection_in, collection_read, scenes_in}
+use Rattle.mix_program.specs.Collections.{Head, head_in, login_in, login_or, last_in, name_in}
+use Rattle.mix_program.specs.Collections.{scene_or_last, where_it, is_format_line, canvas_in}
+use Rattle.mix_program.specs.Collections.{rate_in, record_in, secret_in, collection_from, ◌>>=◌}
+use Rattle.mix_program.specs.Within.{within}
+
+-- the bytes that lines take, each line feed among them
+abbrev size_of : Lines → ℕ
+size_of End = 0
+size_of (Cut line) = length line
+size_of (Whole line more) = length line + 1 + size_of more
+
+size-onto : (byte : ℕ) (lines : Lines) → size_of (onto byte lines) ≡ size_of lines + 1
+size-onto byte End = refl
+size-onto byte (Cut line) = omega arith
+size-onto byte (Whole line more) = omega arith
+
+size-first : (feed : Bool) (byte : ℕ) (lines : Lines) →
+    size_of (cond feed (Whole [] lines) (onto byte lines)) ≡ size_of lines + 1
+size-first true byte lines = omega arith
+size-first false byte lines = size-onto byte lines
+
+size-lines : (bytes : List ℕ) → size_of (lines_of bytes) ≡ length bytes
+size-lines [] = refl
+size-lines (byte ∷ bytes) =
+    let here = size-first (is_feed byte) byte (lines_of bytes) in
+    let rest = size-lines bytes in omega arith
+
+-- where there is room for all lines, all of them are read
+all_fit : (room : ℕ) (lines : Lines) → size_of lines ≤ room → within room lines ≡ lines
+all_fit room End small = refl
+all_fit room (Cut line) small = refl
+all_fit room (Whole line more) small =
+    let here : nat_lt (length line) room ≡ true = lt-ltb (length line) room (omega arith) in
+    let rest = all_fit (room - (length line + 1)) more (omega arith) in
+    rw here (ap (Whole line) rest)
+
+-- the last line is cut
+abbrev is_torn : Lines → Bool
+is_torn End = false
+is_torn (Cut line) = true
+is_torn (Whole line more) = is_torn more
+
+-- where there isn't room for all lines, a line is cut
+torn_at : (fits : Bool) (room : ℕ) (line : List ℕ) (more : Lines) →
+    nat_lt (length line) room ≡ fits → room < size_of (Whole line more) →
+    ((r : ℕ) → r < size_of more → is_torn (within r more) ≡ true) →
+    is_torn (cond fits (Whole line (within (room - (length line + 1)) more)) (Cut line)) ≡ true
+torn_at true room line more here large rest =
+    let below = ltb-true (length line) room here in
+    rest (room - (length line + 1)) (omega (arith, below))
+torn_at false room line more here large rest = refl
+
+too_large : (room : ℕ) (lines : Lines) → room < size_of lines → is_torn (within room lines) ≡ true
+too_large room End large = absurd (omega arith)
+too_large room (Cut line) large = refl
+too_large room (Whole line more) large =
+    torn_at (nat_lt (length line) room) room line more refl large (λ r h. too_large r more h)
+
+last_torn : (program : Option (List ℕ)) (more : Lines) → is_torn more ≡ true →
+    last_in program more ≡ None
+last_torn None more h = refl
+last_torn (Some name) End h = absurd (grind arith)
+last_torn (Some name) (Cut line) h = refl
+last_torn (Some name) (Whole line more) h = refl
+
+neither : (name : Option (List ℕ)) → scene_or_last name None None ≡ None
+neither None = refl
+neither (Some name) = refl
+
+scenes_torn : (lines : Lines) → is_torn lines ≡ true → scenes_in lines ≡ None
+scenes_torn End h = refl
+scenes_torn (Cut line) h = refl
+scenes_torn (Whole line more) h =
+    rw (scenes_torn more h, last_torn (name_in (codes "program") line) more h)
+    (neither (name_in (codes "scene") line))
+
+login_kept : (lines more : Lines) (secret : Option (List ℕ × List ℕ)) → is_torn lines ≡ true →
+    is_torn more ≡ true → is_torn (login_or lines secret more).1 ≡ true
+login_kept lines more None a b = a
+login_kept lines more (Some secret) a b = b
+
+login_torn : (lines : Lines) → is_torn lines ≡ true → is_torn (login_in lines).1 ≡ true
+login_torn End h = h
+login_torn (Cut line) h = refl
+login_torn (Whole line more) h = login_kept (Whole line more) more (secret_in line) h h
+
+-- where there is a head, a line behind it is cut
+abbrev is_rest_torn : Option Head → Bool
+is_rest_torn None = true
+is_rest_torn (Some head) = is_torn head.rest
+
+rest_torn : {A : Type 0} (o : Option A) (f : A → Option Head) →
+    ((a : A) → is_rest_torn (f a) ≡ true) → is_rest_torn (o >>= f) ≡ true
+rest_torn None f h = refl
+rest_torn (Some a) f h = h a
+
+head_torn : (lines : Lines) → is_torn lines ≡ true → is_rest_torn (head_in lines) ≡ true
+unfolding head_in
+head_torn End h = refl
+head_torn (Cut a) h = refl
+head_torn (Whole a End) h = rest_torn (where_it is_format_line a) _ (λ _. refl)
+head_torn (Whole a (Cut b)) h = rest_torn (where_it is_format_line a) _ (λ _. refl)
+head_torn (Whole a (Whole b End)) h = rest_torn (where_it is_format_line a) _
+    (λ _. rest_torn (canvas_in b) _ (λ _. refl))
+head_torn (Whole a (Whole b (Cut c))) h = rest_torn (where_it is_format_line a) _
+    (λ _. rest_torn (canvas_in b) _ (λ _. refl))
+head_torn (Whole a (Whole b (Whole c End))) h = rest_torn (where_it is_format_line a) _
+    (λ _. rest_torn (canvas_in b) _ (λ _. rest_torn (rate_in c) _ (λ _. refl)))
+head_torn (Whole a (Whole b (Whole c (Cut d)))) h = rest_torn (where_it is_format_line a) _
+    (λ _. rest_torn (canvas_in b) _ (λ _. rest_torn (rate_in c) _ (λ _. refl)))
+head_torn (Whole a (Whole b (Whole c (Whole d more)))) h = rest_torn (where_it is_format_line a) _
+    (λ _. rest_torn (canvas_in b) _ (λ canvas. rest_torn (rate_in c) _
+    (λ _. rest_torn (record_in canvas d) _ (λ _. h))))
+
+none_torn : (head : Option Head) → is_rest_torn head ≡ true →
+    (head >>= (λ h. scenes_in (login_in h.rest).1 >>= (λ scenes.
+    Some (collection_from h (login_in h.rest).0 scenes)))) ≡ None
+none_torn None h = refl
+none_torn (Some head) h = rw (scenes_torn _ (login_torn head.rest h)) refl
+
+collection_torn : (lines : Lines) → is_torn lines ≡ true → collection_in lines ≡ None
+unfolding collection_in
+collection_torn lines h = none_torn (head_in lines) (head_torn lines h)
+
+bounded_at : (fits : Bool) (bytes : List ℕ) → nat_le (length bytes) most_bytes ≡ fits →
+    collection_in (within most_bytes (lines_of bytes))
+    ≡ cond fits (collection_in (lines_of bytes)) None
+bounded_at true bytes h =
+    let size = size-lines bytes in
+    let small = leb-true (length bytes) most_bytes h in
+    ap collection_in (all_fit most_bytes (lines_of bytes) (omega (arith, small)))
+bounded_at false bytes h =
+    let size = size-lines bytes in
+    let large = leb-false (length bytes) most_bytes h in
+    collection_torn _ (too_large most_bytes (lines_of bytes) (omega (arith, large)))
+
+-- what is written by the lines that are read is the collection of all bytes
+pub bounded : (bytes : List ℕ) →
+    collection_in (within most_bytes (lines_of bytes)) ≡ collection_read bytes
+unfolding collection_read
+bounded bytes = bounded_at (nat_le (length bytes) most_bytes) bytes refl

@@ -1,0 +1,10 @@
+-- scenes read so far, and those of the lines that are left
+pub mod Registries
+-- no more than so many bytes are read
+pub mod Bounds
+-- pieces that are written one behind the other
+pub mod Pieces
+-- how runs go on and end
+pub mod Runs
+-- which statuses are left
+pub mod Statuses

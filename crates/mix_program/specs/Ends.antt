@@ -1,0 +1,87 @@
+-- How a run goes on and ends, over what its sink held before and holds now.
+use Rattle.std.specs.Prelude.{◌≡◌, ◌⊎◌, ℕ, ◌+◌, List, ◌++◌, length, Option, Some, None}
+use Rattle.mix_outside.specs.Bytes.{IsPrefix, AppendsPrefix}
+use Rattle.mix_model.specs.declared.action.Entry.{Entry}
+use Rattle.mix_engine.specs.Engines.{EngineModel, text_bytes}
+use Rattle.mix_program.specs.Output.{Written, before}
+use Rattle.mix_program.specs.declared.running.Finished.{Finished}
+use Rattle.mix_program.specs.declared.running.Finished.TheVariants.{Done, Full, NotBuilt}
+use Rattle.mix_program.specs.declared.running.Ended.{Ended}
+use Rattle.mix_program.specs.declared.running.Ended.TheVariants.{Whole, ReadFault, WriteFault}
+use Rattle.mix_program.specs.declared.running.Ended.TheVariants.{NoMemory}
+use Rattle.mix_program.specs.declared.running.Wrote.{Wrote}
+use Rattle.mix_program.specs.declared.running.Wrote.TheVariants as wrote
+
+-- of the lines that are to be written some are, and the rest is left
+pub record Goes (old new : List ℕ) (all rest : Written) : Type 0 where
+  pub piece : List ℕ
+  pub held : new ≡ old ++ piece
+  pub left : all ≡ before piece rest
+
+-- a front of the lines is written
+pub record Stops (old new : List ℕ) (all : Written) : Type 0 where
+  pub front : List ℕ
+  pub held : new ≡ old ++ front
+  pub is_front : IsPrefix front all.lines
+
+-- all lines are written, and the status is the run's
+pub record Finishes (status : ℕ) (old new : List ℕ) (all : Written) : Type 0 where
+  pub held : new ≡ old ++ all.lines
+  pub told : all.status ≡ status
+
+-- the status of a run that wrote all
+abbrev pub status_of : Finished → ℕ
+status_of Done = 0
+status_of Full = 7
+status_of NotBuilt = 9
+
+abbrev pub Ends : Ended → List ℕ → List ℕ → Written → Type 0
+Ends (Whole finished) old new all = Finishes (status_of finished) old new all
+Ends ReadFault old new all = Stops old new all
+Ends WriteFault old new all = Stops old new all
+Ends NoMemory old new all = Stops old new all
+
+-- Of what an action and the rest of a run are to write some is written, and the run goes on from
+-- a journal; or the run ended.
+abbrev pub Turned : Option Ended → List ℕ → List ℕ → ((List Entry → Written) → Written) →
+    List Entry → Type 0
+Turned None old new all after = (rest : List Entry → Written) → Goes old new (all rest) (rest after)
+Turned (Some ended) old new all after = (rest : List Entry → Written) → Ends ended old new (all rest)
+
+-- a piece is written whole; or some front of it, and why no more of it is
+abbrev pub Puts : Wrote → List ℕ → List ℕ → List ℕ → Type 0
+Puts wrote.All piece old new = new ≡ old ++ piece
+Puts wrote.WriteFault piece old new = AppendsPrefix piece old new
+Puts wrote.NoMemory piece old new = AppendsPrefix piece old new
+
+-- where the run goes on, the engine has one entry more, which takes this many bytes
+abbrev pub Follows : Option Ended → EngineModel → EngineModel → ℕ → Type 0
+Follows None old new bytes = (new.start ≡ old.start) × (new.limits ≡ old.limits)
+    × (length new.journal ≡ length old.journal + 1)
+    × (text_bytes new.journal ≡ text_bytes old.journal + bytes)
+Follows (Some ended) old new bytes = Unit {0}
+
+-- how a run finished that wrote all its lines
+abbrev pub Finishing : Finished → Ended → Type 0
+Finishing finished (Whole f) = f ≡ finished
+Finishing finished ReadFault = Unit {0}
+Finishing finished WriteFault = Unit {0}
+Finishing finished NoMemory = Unit {0}
+
+-- the status of a run that ended
+abbrev pub status_at : Ended → ℕ
+status_at (Whole finished) = status_of finished
+status_at ReadFault = 5
+status_at WriteFault = 6
+status_at NoMemory = 8
+
+-- the statuses on which all lines are written, and those on which a front of them is
+abbrev pub IsWhole : ℕ → Type 0
+IsWhole status = (status ≡ 0) ⊎ ((status ≡ 7) ⊎ (status ≡ 9))
+
+abbrev pub IsTorn : ℕ → Type 0
+IsTorn status = (status ≡ 5) ⊎ ((status ≡ 6) ⊎ (status ≡ 8))
+
+-- a status without an error in the words is one of these
+abbrev pub IsStatus : ℕ → Type 0
+IsStatus status = (status ≡ 2) ⊎ (IsWhole status ⊎ IsTorn status)

@@ -1,0 +1,85 @@
+-- What the readers of a collection answer, over the lines that were left and are left.
+use Rattle.std.specs.Prelude.{◌≡◌, ℕ, ◌++◌, Bool, codes, true, false, List, [], map}
+use Rattle.std.specs.Prelude.{Option, Some, None, option_map, Result, Ok, Err}
+use Rattle.mix_base.specs.declared.rate.Rate.{Rate}
+use Rattle.mix_outside.specs.Lines.{Lines, Whole}
+use Rattle.mix_model.specs.declared.collection.Collection.{Collection}
+use Rattle.mix_model.specs.declared.collection.Line.{Line}
+use Rattle.mix_model.specs.declared.collection.Line.TheVariants.{Scene}
+use Rattle.mix_program.specs.Collections.{Scenes, next, head_in, login_in, scenes_in, collection_in}
+use Rattle.mix_program.specs.Collections.{is_end, name_in, last_in}
+use Rattle.mix_program.specs.Collections.{Head as HeadLines}
+use Rattle.mix_program.specs.declared.collection.Fault.{Fault}
+use Rattle.mix_program.specs.declared.collection.Opened.{Opened}
+use Rattle.mix_program.specs.declared.collection.Opened.TheVariants as o
+use Rattle.mix_program.specs.declared.collection.head.Head.{Head}
+use Rattle.mix_program.specs.declared.collection.scenes.Registry.{Registry}
+
+-- whether a whole line stood first; then it is taken
+abbrev pub Takes : Result Bool Fault → List ℕ → Lines → Lines → Type 0
+Takes (Ok true) line old new = old ≡ Whole line new
+Takes (Ok false) line old new = next old ≡ None
+Takes (Err fault) line old new = Unit {0}
+
+-- what the head said, with the lines behind it
+abbrev pub with_rest : Head → Lines → HeadLines
+with_rest head rest = record {
+  canvas = head.canvas;
+  rate = head.rate;
+  i420 = head.i420;
+  tracks = head.tracks;
+  rest = rest;
+}
+
+abbrev pub Heads : Result (Option Head) Fault → Lines → Lines → Type 0
+Heads (Ok (Some head)) old new = head_in old ≡ Some (with_rest head new)
+Heads (Ok None) old new = head_in old ≡ None
+Heads (Err fault) old new = Unit {0}
+
+-- the login is read, and the first line behind it
+abbrev pub LogsIn : Result (Option (Option (List ℕ × List ℕ))) Fault → List ℕ → Lines → Lines → Type 0
+LogsIn (Ok (Some secret)) line old new = login_in old ≡ (secret, Whole line new)
+LogsIn (Ok None) line old new = scenes_in (login_in old).1 ≡ None
+LogsIn (Err fault) line old new = Unit {0}
+
+-- the scenes as lines of a collection, and the name of the program's
+abbrev pub registry_of : Scenes → Registry
+registry_of scenes = record { lines = map Scene scenes.0; program = scenes.1 }
+
+-- lines of a collection, and behind them those of the registry
+abbrev pub behind_lines : List Line → Registry → Registry
+behind_lines lines registry = record registry { lines = lines ++ registry.lines }
+
+abbrev pub Registers : Result (Option Registry) Fault → Lines → Type 0
+Registers (Ok registry) lines = option_map registry_of (scenes_in lines) ≡ registry
+Registers (Err fault) lines = Unit {0}
+
+-- what reading gave is what the bytes write
+abbrev pub Opens : Opened → Option Collection → Type 0
+Opens (o.Collection collection) defined = defined ≡ Some collection
+Opens o.NotBuilt defined = defined ≡ None
+Opens o.ReadFault defined = Unit {0}
+Opens o.NoMemory defined = Unit {0}
+
+-- where reading gave a collection, nothing is left of its bytes
+abbrev pub OpensAll : Opened → List ℕ → Type 0
+OpensAll (o.Collection collection) left = left ≡ []
+OpensAll o.NotBuilt left = Unit {0}
+OpensAll o.ReadFault left = Unit {0}
+OpensAll o.NoMemory left = Unit {0}
+
+-- the same where it gave a part that ends with the program's line
+abbrev pub Drains : {A : Type 0} → Result (Option A) Fault → List ℕ → Type 0
+Drains (Ok (Some a)) left = left ≡ []
+Drains (Ok None) left = Unit {0}
+Drains (Err fault) left = Unit {0}
+
+-- the name of the program's scene, where the line names it and nothing is left
+abbrev pub Ends : Result (Option (List ℕ)) Fault → List ℕ → Lines → Type 0
+Ends (Ok program) line left = option_map (λ scenes. scenes.1)
+    (last_in (name_in (codes "program") line) left) ≡ program
+Ends (Err fault) line left = Unit {0}
+
+abbrev pub Collects : Result (Option Collection) Fault → Lines → Type 0
+Collects (Ok collection) lines = collection_in lines ≡ collection
+Collects (Err fault) lines = Unit {0}

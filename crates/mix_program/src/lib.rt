@@ -1,0 +1,10 @@
+//! The program as one call: a command's words, and the objects that it names.
+#![tactic(auto)]
+
+mod collection;
+mod running;
+#[cfg(test)]
+mod tests;
+mod top;
+
+pub use top::{Status, run_offline};

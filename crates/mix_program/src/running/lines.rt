@@ -1,0 +1,161 @@
+//! The lines of what an action is answered.
+ghost use Rattle.std.specs.Prelude.{◌≡◌, ◌≢◌, ◌≤◌, ◌++◌, All, codes, decimal};
+ghost use Rattle.mix_outside.specs.Faults.{Rose};
+ghost use Rattle.mix_events.specs.Sayable.{IsSayable};
+ghost use Rattle.mix_engine.specs.Answers.{IsSayableReply};
+ghost use Rattle.mix_program.specs.Ends.{Puts};
+ghost use Rattle.mix_program.specs.Output.{conn_line, text_line, told_lines, reply_lines};
+
+use crate::running::Wrote;
+use mix_base::ConnId;
+use mix_events::said_text;
+use mix_model::{Reply, Said};
+use mix_outside::{Put, Sink};
+use mix_script::escape;
+use std::alloc::Global;
+
+fn put<K: Sink>(out: &mut K, piece: &[u8]) -> Wrote
+    ensures bytes { K.Tells → Puts result piece.now (K.held out.old) (K.held out.new) }
+    ensures later { K.faults out.old ≤ K.faults out.new }
+    ensures cause { result ≡ Wrote.WriteFault → Rose (K.faults out.old) (K.faults out.new) }
+    ensures steady { result ≢ Wrote.WriteFault → K.faults out.new ≡ K.faults out.old }
+{
+    match out.write(piece) {
+        Put::Done => Wrote::All,
+        Put::Failed => Wrote::WriteFault,
+    }
+}
+
+/// The line of one text that a connection is told.
+#[tactic(auto, using(crate::proofs::Pieces::nothing_put))]
+fn put_text<K: Sink>(alloc: Global, out: &mut K, conn: ConnId, said: &Said) -> Wrote
+    requires { IsSayable said.now }
+    ensures bytes { K.Tells → Puts result (text_line conn said.now)
+        (K.held out.old) (K.held out.new) }
+    ensures later { K.faults out.old ≤ K.faults out.new }
+    ensures cause { result ≡ Wrote.WriteFault → Rose (K.faults out.old) (K.faults out.new) }
+    ensures steady { result ≢ Wrote.WriteFault → K.faults out.new ≡ K.faults out.old }
+{
+    let Ok(text) = said_text(alloc, said) else {
+        return Wrote::NoMemory;
+    };
+    let Ok(text) = escape(alloc, text.as_str()) else {
+        return Wrote::NoMemory;
+    };
+    let number = conn.0;
+    match format!(in alloc; ">c{number} {text}\n") {
+        Ok(line) => put(out, line.as_bytes()),
+        Err(_) => Wrote::NoMemory,
+    }
+}
+
+/// The lines of all that a connection is told.
+fn put_told<K: Sink>(alloc: Global, out: &mut K, conn: ConnId, told: &[Said]) -> Wrote
+    requires { All IsSayable told.now }
+    ensures bytes { K.Tells → Puts result (told_lines conn told.now)
+        (K.held out.old) (K.held out.new) }
+    ensures later { K.faults out.old ≤ K.faults out.new }
+    ensures cause { result ≡ Wrote.WriteFault → Rose (K.faults out.old) (K.faults out.new) }
+    ensures steady { result ≢ Wrote.WriteFault → K.faults out.new ≡ K.faults out.old }
+{
+    'told: for said in told {
+        match put_text(alloc, out, conn, said) {
+            Wrote::All => {}
+            Wrote::WriteFault => return Wrote::WriteFault,
+            Wrote::NoMemory => return Wrote::NoMemory,
+        }
+    }
+    Wrote::All
+}
+
+/// The line of a close.
+#[tactic(auto, using(crate::proofs::Pieces::nothing_put))]
+fn put_close<K: Sink>(alloc: Global, out: &mut K, conn: ConnId, code: u16) -> Wrote
+    ensures bytes { K.Tells → Puts result (conn_line (codes "!c") conn (decimal code))
+        (K.held out.old) (K.held out.new) }
+    ensures later { K.faults out.old ≤ K.faults out.new }
+    ensures cause { result ≡ Wrote.WriteFault → Rose (K.faults out.old) (K.faults out.new) }
+    ensures steady { result ≢ Wrote.WriteFault → K.faults out.new ≡ K.faults out.old }
+{
+    let number = conn.0;
+    match format!(in alloc; "!c{number} {code}\n") {
+        Ok(line) => put(out, line.as_bytes()),
+        Err(_) => Wrote::NoMemory,
+    }
+}
+
+/// The line of a connection that isn't open.
+#[tactic(auto, using(crate::proofs::Pieces::nothing_put))]
+fn put_gone<K: Sink>(alloc: Global, out: &mut K, conn: ConnId) -> Wrote
+    ensures bytes { K.Tells → Puts result (conn_line (codes "!c") conn (codes "gone"))
+        (K.held out.old) (K.held out.new) }
+    ensures later { K.faults out.old ≤ K.faults out.new }
+    ensures cause { result ≡ Wrote.WriteFault → Rose (K.faults out.old) (K.faults out.new) }
+    ensures steady { result ≢ Wrote.WriteFault → K.faults out.new ≡ K.faults out.old }
+{
+    let number = conn.0;
+    match format!(in alloc; "!c{number} gone\n") {
+        Ok(line) => put(out, line.as_bytes()),
+        Err(_) => Wrote::NoMemory,
+    }
+}
+
+/// The line of a connection that went.
+#[tactic(auto, using(crate::proofs::Pieces::nothing_put))]
+fn put_left<K: Sink>(alloc: Global, out: &mut K, conn: ConnId) -> Wrote
+    ensures bytes { K.Tells → Puts result (codes "-c" ++ (decimal conn ++ codes "\n"))
+        (K.held out.old) (K.held out.new) }
+    ensures later { K.faults out.old ≤ K.faults out.new }
+    ensures cause { result ≡ Wrote.WriteFault → Rose (K.faults out.old) (K.faults out.new) }
+    ensures steady { result ≢ Wrote.WriteFault → K.faults out.new ≡ K.faults out.old }
+{
+    let number = conn.0;
+    match format!(in alloc; "-c{number}\n") {
+        Ok(line) => put(out, line.as_bytes()),
+        Err(_) => Wrote::NoMemory,
+    }
+}
+
+/// The lines of what a connection is told, and then that of its close.
+#[tactic(auto, using(crate::proofs::Pieces::first_part, crate::proofs::Pieces::both_parts))]
+fn put_closed<K: Sink>(alloc: Global, out: &mut K, conn: ConnId, told: &[Said], code: u16) -> Wrote
+    requires { All IsSayable told.now }
+    ensures bytes { K.Tells → Puts result
+        (told_lines conn told.now ++ conn_line (codes "!c") conn (decimal code))
+        (K.held out.old) (K.held out.new) }
+    ensures later { K.faults out.old ≤ K.faults out.new }
+    ensures cause { result ≡ Wrote.WriteFault → Rose (K.faults out.old) (K.faults out.new) }
+    ensures steady { result ≢ Wrote.WriteFault → K.faults out.new ≡ K.faults out.old }
+{
+    match put_told(alloc, out, conn, told) {
+        Wrote::All => put_close(alloc, out, conn, code),
+        Wrote::WriteFault => Wrote::WriteFault,
+        Wrote::NoMemory => Wrote::NoMemory,
+    }
+}
+
+/// Writes the lines of a reply.
+pub fn put_reply<K: Sink>(alloc: Global, out: &mut K, reply: &Reply) -> Wrote
+    requires { IsSayableReply reply.now }
+    ensures bytes { K.Tells → Puts result (reply_lines reply.now)
+        (K.held out.old) (K.held out.new) }
+    ensures later { K.faults out.old ≤ K.faults out.new }
+    ensures cause { result ≡ Wrote.WriteFault → Rose (K.faults out.old) (K.faults out.new) }
+    ensures steady { result ≢ Wrote.WriteFault → K.faults out.new ≡ K.faults out.old }
+{
+    match reply {
+        Reply::Full => put(out, b"+ full\n"),
+        Reply::Gone { conn } => put_gone(alloc, out, *conn),
+        Reply::Left { conn } => put_left(alloc, out, *conn),
+        Reply::Told {
+            conn,
+            said,
+            close,
+            ..
+        } => match close {
+            Some(code) => put_closed(alloc, out, *conn, said.as_slice(), *code),
+            None => put_told(alloc, out, *conn, said.as_slice()),
+        },
+        _ => Wrote::All,
+    }
+}

@@ -1,0 +1,5 @@
+//! Nothing but tests: worked examples and faults, over whole runs.
+#![tactic(auto)]
+
+#[cfg(test)]
+mod tests;

@@ -1,0 +1,7 @@
+//! Whole runs, from words and bytes to bytes and a status.
+mod conversation;
+mod faults;
+mod refused;
+mod requests;
+mod running;
+mod sessions;
