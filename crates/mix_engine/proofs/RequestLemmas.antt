@@ -60,6 +60,8 @@ module _ (P : Effect → Type 0) (s : StudioState) (notes : Notes)
       let e : Ok (only_asks s notes (scene_list s)) ≡ effect = cc in subst (Fits P) e listed
   line_fits listed body type.CreateScene effect is =
       let e : create_scene s notes body ≡ effect = cc in subst (Fits P) e (created_fits body)
+  line_fits listed body type.Sleep effect is =
+      let e : Err 206 ≡ effect = cc in subst (Fits P) e refl
   line_fits listed body type.NotBuilt effect is = cc
   line_fits listed body type.Unknown effect is =
       let e : Err 204 ≡ effect = cc in subst (Fits P) e refl

@@ -58,19 +58,21 @@ requested_by s notes ask effect = record {
   notes = notes_in notes effect;
 }
 
--- which request a text names: one that is built, one that isn't built yet, or one that the mixer
--- isn't to know
+-- which request a text names: one that is built, Sleep, which is of batches alone, one that isn't
+-- built yet, or one that the mixer isn't to know
 unfoldable pub type_of : List ℕ → RequestType
 type_of kind =
     if bytes_eq kind (codes "GetSceneList") then type.GetSceneList
     else (if bytes_eq kind (codes "CreateScene") then type.CreateScene
-    else (if is_known kind then type.NotBuilt else type.Unknown))
+    else (if bytes_eq kind (codes "Sleep") then type.Sleep
+    else (if is_known kind then type.NotBuilt else type.Unknown)))
 
 -- the table of requests: the effect of each, or the status that it is answered with; a request that
 -- isn't built yet has no line
 abbrev pub effect_of : StudioState → Notes → Body → RequestType → Option (Result Effect ℕ)
 effect_of s notes body type.GetSceneList = Some (get_scene_list s notes body)
 effect_of s notes body type.CreateScene = Some (create_scene s notes body)
+effect_of s notes body type.Sleep = Some (Err 206)
 effect_of s notes body type.NotBuilt = None
 effect_of s notes body type.Unknown = Some (Err 204)
 

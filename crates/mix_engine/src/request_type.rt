@@ -8,6 +8,8 @@ use crate::known::is_known;
 pub enum RequestType {
     GetSceneList,
     CreateScene,
+    /// A request of batches alone.
+    Sleep,
     /// A request that isn't built yet.
     NotBuilt,
     /// A request that the mixer isn't to know.
@@ -26,6 +28,8 @@ impl RequestType {
             RequestType::GetSceneList
         } else if kind == "CreateScene" {
             RequestType::CreateScene
+        } else if kind == "Sleep" {
+            RequestType::Sleep
         } else if is_known(kind) {
             RequestType::NotBuilt
         } else {

@@ -43,6 +43,7 @@ pub fn answer(
             let answer = create_scene(alloc, graph, still, &body)?;
             Ok(Some(done(kind, id, answer)))
         }
+        RequestType::Sleep => Ok(Some(done(kind, id, Err(206)))),
         RequestType::NotBuilt => Ok(None),
         RequestType::Unknown => Ok(Some(done(kind, id, Err(204)))),
     }

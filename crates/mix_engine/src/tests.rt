@@ -1,4 +1,6 @@
 //! What actions are answered where there is memory, and how a history gets full.
+ghost use Rattle.std.specs.Prelude.{◌≤◌};
+
 use crate::{ActFault, Engine, Full, Setup};
 use mix_base::{Bytes32, ConnId, Limits, ListOf, Name, PassNo, Rate, Text};
 use mix_model::{Action, Answer, Collection, Line, Message, Reply, Said};

@@ -87,7 +87,7 @@ fn first_line_that_is_not_built(rt: HostRuntime) -> Result<(), Fail> {
 fn pieces_change_nothing(rt: HostRuntime) -> Result<(), Fail> {
     let alloc = rt.alloc();
     let first = first_and(alloc, &[], &[])?;
-    for piece in [1usize, 2, 3, 7] {
+    for piece in 1usize..10 {
         let given = Given {
             piece,
             ..first.replay()

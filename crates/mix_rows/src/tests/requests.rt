@@ -2,7 +2,7 @@
 use crate::tests::running::{FIRST, expect, expect_lines, replay_of, text};
 use std::test::Fail;
 
-static ASKED: [&str; 12] = [
+static ASKED: [&str; 13] = [
     "+",
     r#"<c1 {"op":1,"d":{"rpcVersion":1,"eventSubscriptions":0}}"#,
     r#"<c1 {"op":6,"d":{"requestType":"CreateScene","requestId":"r","requestData":{"sceneName":"B"}}}"#,
@@ -14,10 +14,11 @@ static ASKED: [&str; 12] = [
     r#"<c1 {"op":6,"d":{"requestType":"CreateScene","requestId":"r"}}"#,
     r#"<c1 {"op":6,"d":{"requestType":"CreateScene","requestId":"r","requestData":7}}"#,
     r#"<c1 {"op":6,"d":{"requestType":"NoSuchThing","requestId":"r"}}"#,
+    r#"<c1 {"op":6,"d":{"requestType":"Sleep","requestId":"r"}}"#,
     r#"<c1 {"op":6,"d":{"requestType":"CreateScene","requestId":"r","requestData":{"sceneName":"C","zoom":1.5}}}"#,
 ];
 
-static STATUSES: [&str; 12] = [
+static STATUSES: [&str; 13] = [
     r#">c1 {"d":{"obsWebSocketVersion":"5.0.0","rpcVersion":1},"op":0}"#,
     r#">c1 {"d":{"negotiatedRpcVersion":1},"op":2}"#,
     r#">c1 {"d":{"requestId":"r","requestStatus":{"code":100,"result":true},"requestType":"CreateScene","responseData":{"sceneUuid":"00000000-0000-8000-8000-000000000002"}},"op":7}"#,
@@ -29,6 +30,7 @@ static STATUSES: [&str; 12] = [
     r#">c1 {"d":{"requestId":"r","requestStatus":{"code":301,"comment":"MissingRequestData","result":false},"requestType":"CreateScene"},"op":7}"#,
     r#">c1 {"d":{"requestId":"r","requestStatus":{"code":301,"comment":"MissingRequestData","result":false},"requestType":"CreateScene"},"op":7}"#,
     r#">c1 {"d":{"requestId":"r","requestStatus":{"code":204,"comment":"UnknownRequestType","result":false},"requestType":"NoSuchThing"},"op":7}"#,
+    r#">c1 {"d":{"requestId":"r","requestStatus":{"code":206,"comment":"UnsupportedRequestBatchExecutionType","result":false},"requestType":"Sleep"},"op":7}"#,
     r#">c1 {"d":{"requestId":"r","requestStatus":{"code":100,"result":true},"requestType":"CreateScene","responseData":{"sceneUuid":"00000000-0000-8000-8000-000000000003"}},"op":7}"#,
 ];
 

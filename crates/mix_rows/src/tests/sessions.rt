@@ -1,5 +1,5 @@
 //! Messages and what is said to them: who may speak, close codes, and logging in.
-use crate::tests::running::{FIRST, expect_lines};
+use crate::tests::running::{FIRST, expect, expect_lines, replay_of, text};
 use std::test::Fail;
 
 static CLOSED: [&str; 16] = [
@@ -114,5 +114,62 @@ static LOGGED: [&str; 8] = [
 fn login(rt: HostRuntime) -> Result<(), Fail> {
     let alloc = rt.alloc();
     expect_lines(&rt, alloc, &SECRET, &LOGINS, &LOGGED, 0)?;
+    Ok(())
+}
+
+/// Sixty-four connections are told Hello, and one more isn't built yet.
+#[test]
+fn sixty_five_connections(rt: HostRuntime) -> Result<(), Fail> {
+    let alloc = rt.alloc();
+    let collection = text(alloc, &FIRST)?;
+    let mut script = Vec::new(alloc);
+    let mut answers = Vec::new(alloc);
+    for number in 1u32..66 {
+        script.extend_from_slice(b"+\n")?;
+        let answer = if number < 65 {
+            format!(in alloc; ">c{number} {{\"d\":{{\"obsWebSocketVersion\":\"5.0.0\",\"rpcVersion\":1}},\"op\":0}}\n")?
+        } else {
+            format!(in alloc; "not built: line {number}\n")?
+        };
+        answers.extend_from_slice(answer.as_bytes())?;
+    }
+    expect(
+        &rt,
+        alloc,
+        replay_of(collection.as_slice(), script.as_slice()),
+        answers.as_slice(),
+        9,
+        "connections",
+    )?;
+    Ok(())
+}
+
+static IDENTIFIED: [&str; 2] = [
+    r#">c1 {"d":{"obsWebSocketVersion":"5.0.0","rpcVersion":1},"op":0}"#,
+    r#">c1 {"d":{"negotiatedRpcVersion":1},"op":2}"#,
+];
+
+static TOO_LONG: [&str; 2] = [
+    r#">c1 {"d":{"obsWebSocketVersion":"5.0.0","rpcVersion":1},"op":0}"#,
+    "!c1 4002",
+];
+
+/// A text of 1,048,576 bytes is heard, and one of a byte more closes the connection.
+#[test]
+fn long_texts(rt: HostRuntime) -> Result<(), Fail> {
+    let alloc = rt.alloc();
+    let collection = text(alloc, &FIRST)?;
+    for (blanks, answers) in [(1_048_524u32, IDENTIFIED), (1_048_525, TOO_LONG)] {
+        let mut script = Vec::new(alloc);
+        script.extend_from_slice(b"+\n<c1 ")?;
+        script.extend_from_slice(br#"{"op":1,"d":{"rpcVersion":1,"eventSubscriptions":0}}"#)?;
+        for _ in 0..blanks {
+            script.push(b' ')?;
+        }
+        script.push(b'\n')?;
+        let answers = text(alloc, &answers)?;
+        let given = replay_of(collection.as_slice(), script.as_slice());
+        expect(&rt, alloc, given, answers.as_slice(), 0, "a long text")?;
+    }
     Ok(())
 }

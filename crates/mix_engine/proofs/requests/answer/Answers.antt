@@ -51,6 +51,19 @@ returns-in-NotBuilt-clause-state c =
     nothing_left (studio_of c.args.still c.args.graph.now.present) no_notes c.args.ask _ _ _
     c.in-NotBuilt.ensures.value c.as_str.ensures.value c.in_ok-kind.ensures.value refl
 
+-- Sleep outside a batch
+pub returns-in-Sleep-clause-reply : goal.returns-in-Sleep-clause-reply
+returns-in-Sleep-clause-reply c =
+    replied (studio_of c.args.still c.args.graph.now.present) no_notes c.args.ask _ _ _
+    c.in-Sleep.ensures.value c.as_str.ensures.value c.in_ok-kind.ensures.value (Err 206) _ _ refl
+    refl c.done-in-Sleep.ensures.value
+
+pub returns-in-Sleep-clause-state : goal.returns-in-Sleep-clause-state
+returns-in-Sleep-clause-state c =
+    studio_left (studio_of c.args.still c.args.graph.now.present) no_notes c.args.ask _ _ _
+    c.in-Sleep.ensures.value c.as_str.ensures.value c.in_ok-kind.ensures.value (Err 206) _ refl
+    refl
+
 -- and one that the mixer isn't to know
 pub returns-in-Unknown-clause-reply : goal.returns-in-Unknown-clause-reply
 returns-in-Unknown-clause-reply c =
