@@ -1,0 +1,8 @@
+use Rattle.std.proofs.Common.{◌≡◌, map, take, drop, ◌++◌}
+use Rattle.mix_fanout.specs.Keys.{masked_line}
+use Rattle.mix_fanout.proofs.lanes.set_mask.Given as goal
+
+-- so far each is as it becomes, and the rest is as it was
+abbrev pub invariant-loop-lane : goal.invariant-loop-lane
+invariant-loop-lane l = l.lanes ≡ map (masked_line l.conn l.mask) (take l.lane-index l.fn.lanes) ++
+    drop l.lane-index l.fn.lanes

@@ -1,0 +1,6 @@
+-- connections with what waits for them, and what the calls make of them
+pub mod Lanes
+-- lists of keys in place of events, and how many lists each key stands in
+pub mod Keys
+-- families of events that one function copies
+pub mod Copies

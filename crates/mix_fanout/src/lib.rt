@@ -1,0 +1,15 @@
+//! The texts that wait for connections: who is told of which event, in which order, and who is cut.
+#![tactic(auto)]
+
+mod copy;
+mod fanout;
+mod kept;
+mod lane;
+mod lanes;
+mod store;
+#[cfg(test)]
+mod tests;
+mod waiting;
+
+pub use fanout::Fanout;
+pub use waiting::Waiting;
