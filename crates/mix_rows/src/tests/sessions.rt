@@ -127,7 +127,9 @@ fn sixty_five_connections(rt: HostRuntime) -> Result<(), Fail> {
     for number in 1u32..66 {
         script.extend_from_slice(b"+\n")?;
         let answer = if number < 65 {
-            format!(in alloc; ">c{number} {{\"d\":{{\"obsWebSocketVersion\":\"5.0.0\",\"rpcVersion\":1}},\"op\":0}}\n")?
+            format!(in alloc;
+                ">c{number} {{\"d\":{{\"obsWebSocketVersion\":\"5.0.0\",\"rpcVersion\":1}},\"op\":0}}\n"
+            )?
         } else {
             format!(in alloc; "not built: line {number}\n")?
         };
