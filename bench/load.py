@@ -6,8 +6,9 @@
 PROGRAM is crates/lenkhov/out/lenkhov unless it is named; `rt run` in crates/lenkhov builds it. Each
 script asks by turns for the list of scenes and for a scene. Only a few names are asked for, so a few
 scenes are made, and every later request for one is answered with 601. Prints for each script the
-lines in a second, the most memory, and at the end the ratio of the two times, which is 2 where the
-time for a request doesn't depend on how many came before. Ends with 1 where an answer is missing.
+lines in a second of processor time, the most memory, and at the end the ratio of the two times, which
+is 2 where the time for a request doesn't depend on how many came before. Ends with 1 where an answer
+is missing.
 """
 
 import os
@@ -15,7 +16,6 @@ import pathlib
 import subprocess
 import sys
 import tempfile
-import time
 
 HOME = pathlib.Path(__file__).resolve().parent.parent
 PROGRAM = HOME / "crates/lenkhov/out/lenkhov"
@@ -42,15 +42,15 @@ def write_script(path, requests):
 
 
 def measure(program, folder, requests):
-    """The seconds and the most bytes of memory of one run, after a look at all that it wrote."""
+    """The seconds of processor time and the most bytes of memory of one run, after a look at all that
+    it wrote."""
     script, output, record = (folder / name for name in ("script", "output", "record"))
     write_script(script, requests)
     words = [program, "replay", COLLECTION, script, record]
     with open(output, "wb") as file:
-        began = time.monotonic()
         run = subprocess.Popen(words, stdout=file)
         _, ended, used = os.wait4(run.pid, 0)
-        seconds = time.monotonic() - began
+        seconds = used.ru_utime + used.ru_stime
     status = os.waitstatus_to_exitcode(ended)
     run.returncode = status
     done = made = known = 0
