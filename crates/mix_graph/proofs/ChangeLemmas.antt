@@ -7,7 +7,6 @@ use Rattle.std.proofs.lemmas.List.Sums.{sum_by-cons}
 use Rattle.std.proofs.Common.{take, drop, ◌++◌, ◌-◌, length-append, take-append-drop}
 use Rattle.std.proofs.Math.Seq.{take-append_seam}
 use Rattle.std.proofs.Common.{length-set}
-use Rattle.mix_graph.specs.Searched.{popped}
 use Rattle.mix_model.specs.declared.item.Item.{Item}
 use Rattle.mix_model.specs.declared.item.ItemSpec.{ItemSpec}
 use Rattle.mix_model.specs.declared.row.Row.{Row}
@@ -274,56 +273,3 @@ order_without x rows dying places next order =
     let less : item_count (map (without_child x) rows) ≤ item_count rows = without_count x rows in
     order_same rows (map (without_child x) rows) dying places next order (without_serials x rows)
     (omega (arith, few, less))
-
-take_before : (items : List Item) (item : Item) →
-    take (length (items ++ item ∷ []) - 1) (items ++ item ∷ []) ≡ items
-take_before items item =
-    let count : length (items ++ item ∷ []) - 1 ≡ length items =
-    omega (arith, length-append items (item ∷ [])) in
-    rw count (take-append_seam items (item ∷ []))
-
--- an item that is taken back was never there
-pub popped_back : (child : ℕ) (spec : ItemSpec) (row : Row) → popped (with_item child spec row) ≡ row
-unfolding with_item
-popped_back child spec row =
-    let next : row.next_item + 1 - 1 ≡ row.next_item = omega arith in
-    rw (take_before row.items (new_item row.next_item child spec), next)
-
-pub set_back : (rows : List Row) (at : ℕ) (row d : Row) → at < length rows →
-    slice_set (slice_set rows at row) at (get_or rows at d) ≡ rows
-set_back [] at row d below = absurd (omega (arith, below))
-set_back (r ∷ rows) zero row d below = refl
-set_back (r ∷ rows) (suc at) row d below =
-    ap (λ rs. r ∷ rs) (set_back rows at row d (omega (arith, below)))
-
-pub get_set : (rows : List Row) (at : ℕ) (row d : Row) → at < length rows →
-    get_or (slice_set rows at row) at d ≡ row
-get_set [] at row d below = absurd (omega (arith, below))
-get_set (r ∷ rows) zero row d below = refl
-get_set (r ∷ rows) (suc at) row d below = get_set rows at row d (omega (arith, below))
-
--- an item that was put on a row, and taken back
-pub taken_back : (rows after : List Row) (at child : ℕ) (spec : ItemSpec) (d : Row) →
-    at < length rows → after ≡ slice_set rows at (with_item child spec (get_or rows at d)) →
-    slice_set after at (popped (get_or after at d)) ≡ rows
-taken_back rows after at child spec d below put =
-    let row : Row = get_or rows at d in
-    let there : get_or (slice_set rows at (with_item child spec row)) at d
-    ≡ with_item child spec row = get_set rows at (with_item child spec row) d below in
-    rw (put, there, popped_back child spec row)
-    (set_back rows at (with_item child spec row) d below)
-
-pub put_drawn : (rows after : List Row) (at child : ℕ) (spec : ItemSpec) (d e : Row) →
-    at < length rows → after ≡ slice_set rows at (with_item child spec (get_or rows at d)) →
-    0 < (get_or after at e).next_item
-unfolding with_item
-put_drawn rows after at child spec d e below put =
-    rw (put, get_set rows at (with_item child spec (get_or rows at d)) e below) (omega arith)
-
-pub put_within : (rows after : List Row) (at child : ℕ) (spec : ItemSpec) (d : Row) →
-    at < length rows → after ≡ slice_set rows at (with_item child spec (get_or rows at d)) →
-    at < length after
-put_within rows after at child spec d below put =
-    let count : length (slice_set rows at (with_item child spec (get_or rows at d)))
-    ≡ length rows = length-set rows at (with_item child spec (get_or rows at d)) in
-    rw put (omega (arith, count, below))

@@ -29,7 +29,7 @@ use Rattle.mix_model.specs.Rows.{serials_of}
 use Rattle.std.proofs.lemmas.List.Sums.{sum_by_push}
 use Rattle.mix_model.specs.Causes.{item_count}
 use Rattle.mix_graph.specs.Refused.{RefusedBy}
-use Rattle.mix_graph.specs.Searched.{HasRoom, InOrder, late_cause_in, rank_in, weight_in}
+use Rattle.mix_graph.specs.Searched.{HasRoom, InOrder}
 
 -- what a look-up finds passes its test
 pub found_test : {X : Type 0} (p : X → Bool) (xs : List X) (r : X) → find p xs ≡ Some r →
@@ -57,14 +57,14 @@ name_found g name = name_case g name (find_named g name) refl
 
 -- a cause is a refusal
 pub refused_by : (T : Type 0) (cause : Option GraphFault) (fault : GraphFault) →
-    cause ≡ Some fault → RefusedBy {T = T} cause (Err fault)
-refused_by T cause NotFound h = h
-refused_by T cause WrongKind h = h
-refused_by T cause Exists h = h
-refused_by T cause Cycle h = h
-refused_by T cause Depth h = h
-refused_by T cause (TooMany limit) h = h
-refused_by T cause NoMemory h = tt
+    cause ≡ Some fault → (cause ≡ Some NoMemory → ⊥) → RefusedBy {T = T} cause (Err fault)
+refused_by T cause NotFound h other = h
+refused_by T cause WrongKind h other = h
+refused_by T cause Exists h other = h
+refused_by T cause Cycle h other = h
+refused_by T cause Depth h other = h
+refused_by T cause (TooMany limit) h other = h
+refused_by T cause NoMemory h other = absurd (other h)
 
 -- a refusal of one call is that of another
 pub refused_map : (T U : Type 0) (cause : Option GraphFault) (fault : GraphFault) →
@@ -75,48 +75,13 @@ refused_map T U cause Exists h = h
 refused_map T U cause Cycle h = h
 refused_map T U cause Depth h = h
 refused_map T U cause (TooMany limit) h = h
-refused_map T U cause NoMemory h = tt
+refused_map T U cause NoMemory h = h
 
 -- and so it is where the causes are one
 pub refused_same : (T U : Type 0) (a b : Option GraphFault) (fault : GraphFault) → a ≡ b →
     RefusedBy {T = T} a (Err fault) → RefusedBy {T = U} b (Err fault)
 refused_same T U a b fault same h =
     refused_map T U b fault (subst (λ z. RefusedBy {T = T} z (Err fault)) same h)
-
--- the late causes look at rows alone
-pub late_is : (after : GraphState) → late_cause after ≡ late_cause_in after.rows
-unfolding late_cause late_cause_in ranks_within weights_within rank weight rank_in weight_in
-late_is after = refl
-
--- a name that is taken
-pub scene_taken : (g after : GraphState) (name : List ℕ) → has_name g name ≡ true →
-    scene_cause g name after ≡ Some Exists
-unfolding source_early
-scene_taken g after name taken = rw taken
-
--- a name that is free: the late causes are left
-pub scene_free : (g after : GraphState) (name : List ℕ) → has_name g name ≡ false →
-    scene_cause g name after ≡ late_cause_in after.rows
-unfolding source_early
-scene_free g after name free = rw free (late_is after)
-
--- the rows with a scene more
-abbrev pub with_scene : GraphState → List ℕ → List Row
-with_scene g name = g.rows ++ new_row g.next_serial name Scene NoSettings new_sound ∷ []
-
-pub scene_refused : (T : Type 0) (g : GraphState) (name : List ℕ) (fault : GraphFault) →
-    has_name g name ≡ false → late_cause_in (with_scene g name) ≡ Some fault →
-    RefusedBy {T = T} (scene_cause g name (scene_created name g)) (Err fault)
-unfolding scene_created
-scene_refused T g name fault free cause = refused_by T
-    (scene_cause g name (scene_created name g)) fault
-    (scene_free g (scene_created name g) name free ∙ cause)
-
-pub scene_allowed : (g : GraphState) (name : List ℕ) → has_name g name ≡ false →
-    late_cause_in (with_scene g name) ≡ None →
-    scene_cause g name (scene_created name g) ≡ None
-unfolding scene_created
-scene_allowed g name free cause = scene_free g (scene_created name g) name free ∙ cause
 
 pub and_second : (a b : Bool) → (a && b) ≡ true → b ≡ true
 and_second true b h = h

@@ -22,7 +22,7 @@ use Rattle.mix_model.specs.Causes.{unknown, not_parent, copy_early, copy_late, c
 use Rattle.mix_model.specs.declared.item.Item.{Item}
 use Rattle.std.proofs.Common.{Result, Ok, OnOk, OnErr, IfOk, is_some, is_none}
 use Rattle.mix_graph.specs.Refused.{RefusedBy}
-use Rattle.mix_graph.specs.Searched.{InOrder, late_cause_in, rank_in, weight_in}
+use Rattle.mix_graph.specs.Searched.{InOrder}
 use Rattle.mix_graph.proofs.CreateLemmas.{and_first, and_second, not_true}
 use Rattle.mix_graph.proofs.ChangeLemmas.{changed_at, changed_length, at_has, differs, order_same, set_serials}
 
@@ -64,7 +64,7 @@ row_case g x (Some r) found named = refl
 pub named_there : (g : GraphState) (x : ℕ) → is_named g x ≡ true → is_row g x ≡ true
 named_there g x named = row_case g x (row_of g x) refl named
 
-first_free : (a : Bool) (fault : GraphFault) (more : List Cause) →
+pub first_free : (a : Bool) (fault : GraphFault) (more : List Cause) →
     first_cause ((not a, fault) ∷ more) ≡ None → a ≡ true
 first_free true fault more h = refl
 first_free false fault more h = cc
@@ -133,24 +133,6 @@ pub item_free : (g after : GraphState) (parent child : ℕ) → item_early g par
     item_cause g parent child after ≡ item_late g parent child after
 item_free g after parent child early = rw early refl
 
-third_passed : (a b c d : Bool) (fa fb fc fd : GraphFault) →
-    first_cause ((a, fa) ∷ ((b, fb) ∷ ((c, fc) ∷ ((d, fd) ∷ [])))) ≡ None → c ≡ false
-third_passed true b c d fa fb fc fd h = cc
-third_passed false true c d fa fb fc fd h = cc
-third_passed false false true d fa fb fc fd h = cc
-third_passed false false false d fa fb fc fd h = refl
-
--- rows that are allowed have few items
-pub few_items : (rows : List Row) → late_cause_in rows ≡ None → item_count rows ≤ 2048
-unfolding late_cause_in
-few_items rows none =
-    let passed : nat_lt 2048 (item_count rows) ≡ false = third_passed
-    (not (list_all (λ r. nat_le (rank_in rows r.serial) 16) rows)) (nat_lt 512 (length rows))
-    (nat_lt 2048 (item_count rows))
-    (not (list_all (λ r. nat_le (weight_in rows r.serial) 4096) rows)) Depth (TooMany 512)
-    (TooMany 2048) (TooMany 4096) none in
-    grind (arith, nat_tests, passed)
-
 pub ok_map : {T E : Type 0} (P Q : Type 0) (r : Result T E) → OnOk r P → (P → Q) → OnOk r Q
 ok_map P Q (Ok x) h f = f h
 ok_map P Q (Err e) h f = h
@@ -160,14 +142,14 @@ pub reply_map : {T E : Type 0} (P Q : T → Type 0) (r : Result T E) → IfOk r 
 reply_map P Q (Ok x) h f = f x h
 reply_map P Q (Err e) h f = h
 
--- the rows are in order, whether the item is taken or refused
-pub order_tried : {T : Type 0} (rows after put : List Row) (dying : List ℕ) (places next : ℕ)
-    (r : Result T GraphFault) → OnOk r (after ≡ put) → OnErr r (after ≡ rows) →
-    RefusedBy (late_cause_in put) r → InOrder rows dying places next →
-    serials_of put ≡ serials_of rows → InOrder after dying places next
-order_tried rows after put dying places next (Ok x) ok err cause order same =
-    rw ok (order_same rows put dying places next order same (few_items put cause))
-order_tried rows after put dying places next (Err e) ok err cause order same = rw err order
+-- the rows are in order, whether there is memory for the item or not
+pub order_put : {T E : Type 0} (rows after put : List Row) (dying : List ℕ) (places next : ℕ)
+    (r : Result T E) → OnOk r (after ≡ put) → OnErr r (after ≡ rows) → item_count put ≤ 2048 →
+    InOrder rows dying places next → serials_of put ≡ serials_of rows →
+    InOrder after dying places next
+order_put rows after put dying places next (Ok x) ok err few order same =
+    rw ok (order_same rows put dying places next order same few)
+order_put rows after put dying places next (Err e) ok err few order same = rw err order
 
 with_serial : (child : ℕ) (spec : ItemSpec) (row : Row) →
     (with_item child spec row).serial ≡ row.serial

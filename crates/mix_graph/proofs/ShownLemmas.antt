@@ -18,12 +18,15 @@ use Rattle.mix_model.specs.Edits.{item_added, row_added, scene_created, group_cr
 use Rattle.mix_model.specs.Edits.{input_created, shown_input_created}
 use Rattle.mix_model.specs.declared.kind.Kind.TheVariants.{Scene, Group}
 use Rattle.mix_model.specs.declared.settings.Settings.TheVariants.{None as NoSettings}
-use Rattle.mix_model.specs.Causes.{shown_early, shown_cause}
+use Rattle.mix_model.specs.Causes.{shown_early, shown_cause, late_cause, item_count}
 use Rattle.mix_graph.specs.Created.{shown_added, listed, next_item, input_made, Wanted}
-use Rattle.mix_graph.specs.Searched.{InOrder, late_cause_in, with_item_on}
-use Rattle.mix_graph.proofs.CreateLemmas.{late_is, differ_more, order_row}
+use Rattle.mix_graph.specs.Searched.{InOrder, with_item_on}
+use Rattle.mix_graph.proofs.CreateLemmas.{differ_more, order_row}
 use Rattle.mix_graph.proofs.ChangeLemmas.{changed_at, changed_length, order_same}
-use Rattle.mix_graph.proofs.ItemLemmas.{few_items, put_serials, found_at}
+use Rattle.mix_graph.proofs.ItemLemmas.{put_serials, found_at, named_there, first_free}
+use Rattle.mix_model.specs.Lookups.{is_row}
+use Rattle.mix_model.specs.Holders.{is_named}
+use Rattle.mix_model.specs.Causes.{not_parent, name_taken}
 
 -- a named parent is a row
 pub shown_not_there : (g : GraphState) (name : List ℕ) (parent : ℕ) →
@@ -33,11 +36,17 @@ shown_not_there g name parent early none =
     let refused : shown_early g name parent ≡ Some NotFound = rw none in
     absurd (cc (sym early ∙ refused))
 
+-- a parent that isn't refused is there
+pub shown_there : (g : GraphState) (name : List ℕ) (parent : ℕ) →
+    shown_early g name parent ≡ None → is_row g parent ≡ true
+unfolding shown_early
+shown_there g name parent early = named_there g parent (first_free (is_named g parent) NotFound
+    (not_parent g parent ∷ (name_taken g name ∷ [])) early)
+
 -- nothing is refused early: the late causes are left
 pub shown_free : (g after : GraphState) (name : List ℕ) (parent : ℕ) →
-    shown_early g name parent ≡ None →
-    shown_cause g name parent after ≡ late_cause_in after.rows
-shown_free g after name parent early = rw early (late_is after)
+    shown_early g name parent ≡ None → shown_cause g name parent after ≡ late_cause after
+shown_free g after name parent early = rw early refl
 
 -- the rows with one more
 abbrev pub with_row : List ℕ → Kind → Settings → GraphState → List Row
@@ -93,17 +102,17 @@ pub order_shown : (rows after : List Row) (row : Row) (dying : List ℕ) (before
     InOrder rows dying before next → row.items ≡ [] →
     length dying + (length rows + 1) ≤ room → next < 4294967295 → row.serial ≡ next →
     at < length rows → after ≡ with_item_on (rows ++ row ∷ []) at child spec d →
-    late_cause_in (with_item_on (rows ++ row ∷ []) at child spec d) ≡ None →
+    item_count (with_item_on (rows ++ row ∷ []) at child spec d) ≤ 2048 →
     InOrder after dying room (next + 1)
 order_shown rows after row dying before room next at child spec d order bare had below own within
-    put allowed =
+    put few =
     let one : InOrder (rows ++ row ∷ []) dying room (next + 1) =
     order_row rows (rows ++ row ∷ []) row dying before room next order refl bare had below own in
     let count = length-append rows (row ∷ []) in
     rw put (order_same (rows ++ row ∷ []) (with_item_on (rows ++ row ∷ []) at child spec d) dying
     room (next + 1) one
     (put_serials (rows ++ row ∷ []) at child spec d (omega (arith, count, within)))
-    (few_items (with_item_on (rows ++ row ∷ []) at child spec d) allowed))
+    few)
 
 -- the item gets the next id of its parent
 pub shown_item : (g : GraphState) (parent at id : ℕ) (d : Row) →
@@ -112,6 +121,12 @@ pub shown_item : (g : GraphState) (parent at id : ℕ) (d : Row) →
     next_item g parent ≡ Some id
 shown_item g parent at id d differ within here own =
     rw (found_at parent g.rows at d differ within here) (ap Some (sym own))
+
+-- a group isn't listed
+pub shown_group : (name : List ℕ) (parent : ℕ) (spec : ItemSpec) (g : GraphState) →
+    shown_added name Group NoSettings parent spec g ≡ group_created name parent spec g
+unfolding shown_added group_created item_added
+shown_group name parent spec g = refl
 
 -- an input is listed
 pub shown_input : (name : List ℕ) (kind : Kind) (settings : Settings) (parent : ℕ)

@@ -4,3 +4,4 @@ pub mod Settling
 pub mod RowEdits
 pub mod Asked
 pub mod Created
+pub mod Whole

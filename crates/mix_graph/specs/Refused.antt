@@ -11,6 +11,8 @@ use Rattle.mix_model.specs.Rows.{is_scene}
 use Rattle.mix_model.specs.State.{GraphState, Channel}
 use Rattle.mix_model.specs.Lookups.{is_row, row_passes, named_by, item_at}
 use Rattle.mix_model.specs.Holders.{is_named}
+use Rattle.mix_model.specs.Causes.{first_cause, name_taken, above}
+use Rattle.std.specs.Prelude.{List, [], ◌∷◌, ◌+◌, length}
 
 -- a graph holds at most what every mixer does; how long a history may be isn't its affair
 abbrev pub are_limits : Limits → Bool
@@ -22,11 +24,18 @@ are_limits limits = (limits.rows == standard.rows) && (limits.items == standard.
     && (limits.watches == standard.watches)
     && nat_le limits.turns standard.turns && nat_le limits.bytes standard.bytes
 
--- a call is refused exactly where there is a cause, and by the first one; but there may be no memory
+-- a call is refused exactly where there is a cause, and by the first one. Only where there is none may
+-- there be no memory
 abbrev pub RefusedBy : {T : Type 0} → Option GraphFault → Result T GraphFault → Type 0
 RefusedBy cause (Ok value) = cause ≡ None
-RefusedBy cause (Err NoMemory) = Unit {0}
+RefusedBy cause (Err NoMemory) = cause ≡ None
 RefusedBy cause (Err fault) = cause ≡ Some fault
+
+-- a new source that no item shows is refused for its name, or where there are as many rows as there
+-- may be: it has no items, and no other row gets deeper or heavier
+abbrev pub bare_cause : GraphState → List ℕ → Option GraphFault
+bare_cause g name =
+    first_cause (name_taken g name ∷ (above standard.rows (length g.rows + 1) ∷ []))
 
 -- a serial that isn't that of a named row is missing
 abbrev pub is_missing : GraphState → ℕ → Bool

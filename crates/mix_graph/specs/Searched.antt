@@ -12,7 +12,10 @@ use Rattle.mix_model.specs.Rows.{is_at, serials_of, children_of, visible_childre
 use Rattle.mix_model.specs.declared.fault.GraphFault.{GraphFault}
 use Rattle.mix_model.specs.declared.fault.GraphFault.TheVariants.{Depth, TooMany}
 use Rattle.mix_model.specs.Causes.{Cause, above, first_cause, item_count}
-use Rattle.mix_model.specs.Ranks.{inside_of, rank_by, weight_by}
+use Rattle.mix_model.specs.Ranks.{rank_by, weight_by}
+use Rattle.mix_graph.specs.declared.refused.NewItem.{NewItem}
+use Rattle.mix_model.specs.Rows.{has_items}
+use Rattle.std.specs.Prelude.{Some, None, if◌then◌else◌, ◌==◌, ◌&&◌}
 use Rattle.mix_model.specs.Walks.{leads, most_steps}
 
 -- the next rows of a walk: the children that visible items show
@@ -27,9 +30,21 @@ chained_in rows x = option_map_or children_of (find (is_at x) rows) []
 unfoldable pub reached_in : List Row → List ℕ → ℕ → Bool
 reached_in rows roots x = list_any (λ root. leads (next_in rows) most_steps root x) roots
 
--- the children of a scene or group
-abbrev pub inside_in : List Row → ℕ → Option (List ℕ)
-inside_in rows x = option_and_then inside_of (find (is_at x) rows)
+-- the children of a row, and that of an item that would be new
+abbrev pub children_with : NewItem → Row → List ℕ
+children_with new row = if row.serial == new.parent then new.child ∷ children_of row else children_of row
+
+-- what is inside a serial that is no row: nothing, or a group that would be new and has no items
+abbrev pub inside_new : NewItem → ℕ → Option (List ℕ)
+inside_new new x = if new.group && (new.child == x) then Some [] else None
+
+abbrev pub inside_or_new : NewItem → ℕ → Option Row → Option (List ℕ)
+inside_or_new new x None = inside_new new x
+inside_or_new new x (Some row) = if has_items row.kind then Some (children_with new row) else None
+
+-- what would be inside a scene or group
+abbrev pub inside_with : NewItem → List Row → ℕ → Option (List ℕ)
+inside_with new rows x = inside_or_new new x (find (is_at x) rows)
 
 -- a flag for each row, put on also where the row's serial passes the test
 abbrev pub flagged_also : (ℕ → Bool) → List Row → List Bool → List Bool
@@ -52,30 +67,24 @@ pub record InOrder (rows : List Row) (dying : List ℕ) (places next : ℕ) : Ty
   pub differ : is_distinct (serials_of rows) ≡ true
   pub below : list_all (λ x. nat_lt x next) (serials_of rows) ≡ true
 
--- the rank of a row, among these rows
-unfoldable pub rank_in : List Row → ℕ → ℕ
-rank_in rows x = rank_by (inside_in rows) 17 x
+-- the rank of a row, with an item that would be new
+unfoldable pub rank_with : NewItem → List Row → ℕ → ℕ
+rank_with new rows x = rank_by (inside_with new rows) 17 x
 
--- the weight of a row, among these rows
-unfoldable pub weight_in : List Row → ℕ → ℕ
-weight_in rows x = weight_by (inside_in rows) 17 x
+-- the weight of a row, with an item that would be new
+unfoldable pub weight_with : NewItem → List Row → ℕ → ℕ
+weight_with new rows x = weight_by (inside_with new rows) 17 x
 
--- what these rows would be refused for
-abbrev pub causes_in : List Row → List Cause
-causes_in rows =
-    (not (list_all (λ r. nat_le (rank_in rows r.serial) 16) rows), Depth)
-    ∷ (above 512 (length rows) ∷ (above 2048 (item_count rows)
-    ∷ ((not (list_all (λ r. nat_le (weight_in rows r.serial) 4096) rows), TooMany 4096) ∷ [])))
+-- what an item is refused for, where there would be so many rows
+abbrev pub causes_with : NewItem → List Row → ℕ → List Cause
+causes_with new rows count =
+    (not (list_all (λ r. nat_le (rank_with new rows r.serial) 16) rows), Depth)
+    ∷ (above 512 count ∷ ((nat_lt 2047 (item_count rows), TooMany 2048)
+    ∷ ((not (list_all (λ r. nat_le (weight_with new rows r.serial) 4096) rows), TooMany 4096)
+    ∷ [])))
 
-unfoldable pub late_cause_in : List Row → Option GraphFault
-late_cause_in rows = first_cause (causes_in rows)
-
--- the item on top is taken away, and its id back
-abbrev pub popped : Row → Row
-popped row = record row {
-  items = take (length row.items - 1) row.items;
-  next_item = row.next_item - 1;
-}
+unfoldable pub late_cause_with : NewItem → List Row → ℕ → Option GraphFault
+late_cause_with new rows count = first_cause (causes_with new rows count)
 
 -- the item on top of the row at this place
 abbrev pub with_item_on : List Row → ℕ → ℕ → ItemSpec → Row → List Row

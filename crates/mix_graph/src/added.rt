@@ -11,9 +11,13 @@ ghost use Rattle.mix_model.specs.Edits.{item_added, item_duplicated};
 ghost use Rattle.std.specs.Prelude.{IfSome, IsTrue};
 ghost use Rattle.mix_model.specs.Items.{new_item, with_item, spec_of};
 ghost use Rattle.mix_graph.specs.Refused.{RefusedBy};
-ghost use Rattle.mix_graph.specs.Searched.{late_cause_in, popped, with_item_on};
+ghost use Rattle.mix_graph.specs.Searched.{with_item_on};
+ghost use Rattle.mix_model.specs.declared.item.ItemSpec.{ItemSpec};
+ghost use Rattle.mix_model.specs.Lookups.{item_at};
+ghost use Rattle.mix_model.specs.Causes.{item_count};
+ghost use Rattle.std.specs.Prelude.{Some};
 
-use crate::refused::late_cause;
+use crate::refused::{NewItem, late_cause};
 use crate::row_edit::items_taken;
 use crate::search::{chains_to, has_items, place_of};
 use crate::sources::Sources;
@@ -36,7 +40,7 @@ fn new_item(id: ItemId, child: Serial, spec: &ItemSpec) -> Item
 }
 
 #[tactic(auto, unfolding(mix_model::specs::Items::spec_of))]
-fn spec_of(item: &Item) -> ItemSpec
+pub fn spec_of(item: &Item) -> ItemSpec
     ensures { result ≡ spec_of item.now }
 {
     ItemSpec {
@@ -75,22 +79,8 @@ fn push_item(
     }
 }
 
-/// Takes the item on top away, and its id back.
-fn pop_item(alloc: Global, row: &mut Row)
-    requires { 0 < row.old.next_item }
-    ensures { row.new ≡ record row.old {
-      items = take (length row.old.items - 1) row.old.items;
-      next_item = row.old.next_item - 1;
-    } }
-{
-    let mut items = items_taken(alloc, row);
-    let _ = items.pop();
-    row.items = ListOf::from_vec(items);
-    row.next_item -= 1;
-}
-
 /// Puts an item on top of the row at an index.
-fn push_item_at(
+pub fn push_item_at(
     alloc: Global,
     rows: &mut Vec<Row>,
     at: usize,
@@ -106,46 +96,6 @@ fn push_item_at(
 {
     let row = &mut rows[at];
     push_item(alloc, row, child, spec)
-}
-
-/// Takes the item on top of the row at an index away.
-fn pop_item_at(alloc: Global, rows: &mut Vec<Row>, at: usize)
-    requires within { at < length rows.old.items }
-    requires drawn { HoldsAt (λ r. 0 < r.next_item) rows.old.items at }
-    ensures { (d : Row) → rows.new.items
-        ≡ slice_set rows.old.items at (popped (slice_index_or rows.old.items at d)) }
-{
-    let row = &mut rows[at];
-    pop_item(alloc, row);
-}
-
-/// Puts an item on top of the row at an index, unless the rows are then refused.
-pub fn try_item(
-    alloc: Global,
-    rows: &mut Vec<Row>,
-    at: usize,
-    child: Serial,
-    spec: &ItemSpec,
-) -> Result<ItemId, GraphFault>
-    requires within { at < length rows.old.items }
-    requires drawn { HoldsAt (λ r. r.next_item < 4294967295) rows.old.items at }
-    ensures reply { IfOk result (λ id. HoldsAt (λ r. id ≡ r.next_item) rows.old.items at) }
-    ensures ok { OnOk result ((d : Row) →
-        rows.new.items ≡ with_item_on rows.old.items at child spec.now d) }
-    ensures err { OnErr result (rows.new.items ≡ rows.old.items) }
-    ensures cause { (d : Row) → RefusedBy
-        (late_cause_in (with_item_on rows.old.items at child spec.now d)) result }
-{
-    match push_item_at(alloc, rows, at, child, spec) {
-        Err(_) => Err(GraphFault::NoMemory),
-        Ok(id) => match late_cause(rows.as_slice()) {
-            None => Ok(id),
-            Some(fault) => {
-                pop_item_at(alloc, rows, at);
-                Err(fault)
-            }
-        },
-    }
 }
 
 impl Sources {
@@ -180,53 +130,62 @@ impl Sources {
         chains_to(self.rows.as_slice(), 17, from, to)
     }
 
-    /// Puts an item on top of a row, unless it makes a circle or the rows are then refused.
-    fn put_item(
-        &mut self,
-        alloc: Global,
-        parent: Serial,
-        child: Serial,
-        spec: &ItemSpec,
-    ) -> Result<ItemId, GraphFault>
-        requires there { IsTrue (is_row self.old parent) }
-        requires drawn { IfSome (row_of self.old parent) (λ r. r.next_item < 4294967295) }
-        ensures reply { IfOk result (λ id. IfSome (row_of self.old parent)
-            (λ r. id ≡ r.next_item)) }
-        ensures ok { OnOk result (self.new ≡ item_added parent child spec.now self.old) }
-        ensures err { OnErr result (self.new ≡ self.old) }
-        ensures refused { RefusedBy (item_late self.old parent child
-            (item_added parent child spec.now self.old)) result }
+    /// Whether an item may show the child: it makes no circle, and no row gets too deep or too heavy.
+    fn check_child(&self, parent: Serial, child: Serial) -> Result<(), GraphFault>
+        requires there { IsTrue (is_row self.now parent) }
+        ensures few { OnOk result (item_count self.now.rows < 2048) }
+        ensures refused { (spec : ItemSpec) → RefusedBy (item_late self.now parent child
+            (item_added parent child spec self.now)) result }
     {
         if self.is_chained(child, parent) {
             return Err(GraphFault::Cycle);
         }
-        let Some(at) = place_of(self.rows.as_slice(), parent) else {
-            unreachable!()
+        let new = NewItem {
+            parent,
+            child,
+            group: false,
         };
-        try_item(alloc, &mut self.rows, at, child, spec)
+        let rows = self.rows.as_slice();
+        match late_cause(rows, &new, rows.len()) {
+            Some(fault) => Err(fault),
+            None => Ok(()),
+        }
     }
 
-    /// Puts an item on top of a scene or group.
+    /// Whether an item may show the child on top of a scene or group.
+    pub fn check_item(&self, parent: Serial, child: Serial) -> Result<(), GraphFault>
+        ensures there { OnOk result (IsTrue (is_row self.now parent)) }
+        ensures few { OnOk result (item_count self.now.rows < 2048) }
+        ensures refused { (spec : ItemSpec) → RefusedBy (item_cause self.now parent child
+            (item_added parent child spec self.now)) result }
+    {
+        let early = self.item_early(parent, child);
+        if let Some(fault) = early {
+            return Err(fault);
+        }
+        self.check_child(parent, child)
+    }
+
+    /// Puts an item on top of a row.
     pub fn add_item(
         &mut self,
         alloc: Global,
         parent: Serial,
         child: Serial,
         spec: &ItemSpec,
-    ) -> Result<ItemId, GraphFault>
+    ) -> Result<ItemId, NoMemory>
+        requires there { IsTrue (is_row self.old parent) }
+        requires few { item_count self.old.rows < 2048 }
         requires drawn { IfSome (row_of self.old parent) (λ r. r.next_item < 4294967295) }
         ensures reply { IfOk result (λ id. IfSome (row_of self.old parent)
             (λ r. id ≡ r.next_item)) }
         ensures ok { OnOk result (self.new ≡ item_added parent child spec.now self.old) }
         ensures err { OnErr result (self.new ≡ self.old) }
-        ensures refused { RefusedBy (item_cause self.old parent child
-            (item_added parent child spec.now self.old)) result }
     {
-        let early = self.item_early(parent, child);
-        if let Some(fault) = early {
-            return Err(fault);
-        }
-        self.put_item(alloc, parent, child, spec)
+        let Some(at) = place_of(self.rows.as_slice(), parent) else {
+            unreachable!()
+        };
+        push_item_at(alloc, &mut self.rows, at, child, spec)
     }
 
     /// Why a copy of an item is refused before any row is looked at as it would be.
@@ -243,21 +202,13 @@ impl Sources {
         None
     }
 
-    /// Puts a copy of an item on top of a scene or group.
-    pub fn duplicate_item(
-        &mut self,
-        alloc: Global,
-        parent: Serial,
-        id: ItemId,
-        to: Serial,
-    ) -> Result<ItemId, GraphFault>
-        requires drawn { IfSome (row_of self.old to) (λ r. r.next_item < 4294967295) }
-        ensures reply { IfOk result (λ copy. IfSome (row_of self.old to)
-            (λ r. copy ≡ r.next_item)) }
-        ensures ok { OnOk result (self.new ≡ item_duplicated parent id to self.old) }
-        ensures err { OnErr result (self.new ≡ self.old) }
-        ensures refused { RefusedBy (copy_cause self.old parent id to
-            (item_duplicated parent id to self.old)) result }
+    /// The item that may be copied to the top of a scene or group.
+    pub fn check_copy(&self, parent: Serial, id: ItemId, to: Serial) -> Result<Item, GraphFault>
+        ensures item { IfOk result (λ item. item_at self.now parent id ≡ Some item) }
+        ensures there { OnOk result (IsTrue (is_row self.now to)) }
+        ensures few { OnOk result (item_count self.now.rows < 2048) }
+        ensures refused { RefusedBy (copy_cause self.now parent id to
+            (item_duplicated parent id to self.now)) result }
     {
         let early = self.copy_early(parent, id, to);
         if let Some(fault) = early {
@@ -266,6 +217,9 @@ impl Sources {
         let Some(item) = self.item(parent, id).copied() else {
             unreachable!()
         };
-        self.put_item(alloc, to, item.child, &spec_of(&item))
+        match self.check_child(to, item.child) {
+            Err(fault) => Err(fault),
+            Ok(()) => Ok(item),
+        }
     }
 }

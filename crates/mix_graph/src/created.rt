@@ -4,11 +4,8 @@ ghost use Rattle.mix_model.specs.Holders.{has_name};
 ghost use Rattle.mix_model.specs.Rows.{new_row};
 ghost use Rattle.mix_model.specs.Values.{new_sound};
 ghost use Rattle.mix_model.specs.Edits.{scene_created};
-ghost use Rattle.mix_model.specs.Causes.{scene_cause};
-ghost use Rattle.mix_graph.specs.Refused.{RefusedBy};
-ghost use Rattle.mix_graph.specs.Searched.{late_cause_in};
+ghost use Rattle.mix_graph.specs.Refused.{RefusedBy, bare_cause};
 
-use crate::refused::late_cause;
 use crate::sources::Sources;
 use mix_base::{ListOf, Name, NoMemory, Serial};
 use mix_model::{GraphFault, Kind, Row, Settings, Sound};
@@ -71,30 +68,6 @@ pub fn reserve_source(
     Ok(())
 }
 
-/// Takes the last row away.
-pub fn drop_last(rows: &mut Vec<Row>)
-    ensures rows { rows.new.items ≡ take (vec_len rows.old - 1) rows.old.items }
-{
-    let _ = rows.pop();
-}
-
-/// Puts a row at the end, unless the rows are then refused.
-pub fn push_row(rows: &mut Vec<Row>, row: Row) -> Result<(), GraphFault>
-    requires room { vec_len rows.old < vec_capacity rows.old }
-    ensures ok { OnOk result (rows.new.items ≡ rows.old.items ++ row ∷ []) }
-    ensures err { OnErr result (rows.new.items ≡ rows.old.items) }
-    ensures cause { MatchResult result
-        (λ _. late_cause_in (rows.old.items ++ row ∷ []) ≡ None)
-        (λ fault. late_cause_in (rows.old.items ++ row ∷ []) ≡ Some fault) }
-{
-    rows.push_reserved(row);
-    if let Some(fault) = late_cause(rows.as_slice()) {
-        drop_last(rows);
-        return Err(fault);
-    }
-    Ok(())
-}
-
 impl Sources {
     pub fn has_name(&self, name: &[u8]) -> bool
         ensures { result ≡ has_name self.now name.now }
@@ -102,30 +75,32 @@ impl Sources {
         self.find_named(name).is_some()
     }
 
+    /// Whether a source that no item shows may have this name, and there is a place for it.
+    pub fn check_source(&self, name: &[u8]) -> Result<(), GraphFault>
+        ensures refused { RefusedBy (bare_cause self.now name.now) result }
+    {
+        if self.has_name(name) {
+            return Err(GraphFault::Exists);
+        }
+        if self.rows.len() >= 512 {
+            return Err(GraphFault::TooMany { limit: 512 });
+        }
+        Ok(())
+    }
+
     /// A scene, last in the registry.
-    pub fn create_scene(&mut self, alloc: Global, name: Name) -> Result<Serial, GraphFault>
+    pub fn create_scene(&mut self, alloc: Global, name: Name) -> Result<Serial, NoMemory>
         requires drawn { self.old.next_serial < 4294967295 }
         ensures reply { IfOk result (λ serial. serial ≡ self.old.next_serial) }
         ensures ok { OnOk result (self.new ≡ scene_created name self.old) }
         ensures err { OnErr result (self.new ≡ self.old) }
-        ensures refused { RefusedBy
-            (scene_cause self.old name (scene_created name self.old)) result }
     {
-        if self.has_name(name.bytes()) {
-            return Err(GraphFault::Exists);
-        }
         let serial = Serial(self.next_serial);
-        let Ok(()) = reserve_source(&mut self.rows, &mut self.dying, &mut self.scenes) else {
-            return Err(GraphFault::NoMemory);
-        };
+        reserve_source(&mut self.rows, &mut self.dying, &mut self.scenes)?;
         let row = new_row(alloc, serial, name, Kind::Scene, Settings::None);
-        match push_row(&mut self.rows, row) {
-            Err(fault) => Err(fault),
-            Ok(()) => {
-                self.scenes.push_reserved(serial);
-                self.next_serial += 1;
-                Ok(serial)
-            }
-        }
+        self.rows.push_reserved(row);
+        self.scenes.push_reserved(serial);
+        self.next_serial += 1;
+        Ok(serial)
     }
 }

@@ -32,13 +32,16 @@ impl Graph {
         ensures refused { RefusedBy (shown_cause self.old.present name parent
             (group_created name parent spec self.old.present)) result }
     {
+        if let Err(fault) = self.sources.check_shown(name.bytes(), Kind::Group, parent) {
+            return Err(fault);
+        }
         let Ok(()) = self.tally.grow() else {
             return Err(GraphFault::NoMemory);
         };
         match self.sources.create_group(self.alloc, name, parent, &spec) {
-            Err(fault) => {
+            Err(_) => {
                 self.tally.cut(self.sources.rows().len());
-                Err(fault)
+                Err(GraphFault::NoMemory)
             }
             Ok(made) => {
                 self.tally.settle(&mut self.sources);
@@ -68,6 +71,9 @@ impl Graph {
         ensures refused { RefusedBy (input_cause self.old.present name parent
             (input_made name kind settings parent self.old.present)) result }
     {
+        if let Err(fault) = self.sources.check_input(name.bytes(), kind, &parent) {
+            return Err(fault);
+        }
         let Ok(()) = self.tally.grow() else {
             return Err(GraphFault::NoMemory);
         };
@@ -75,9 +81,9 @@ impl Graph {
             .sources
             .create_input(self.alloc, name, kind, settings, parent)
         {
-            Err(fault) => {
+            Err(_) => {
                 self.tally.cut(self.sources.rows().len());
-                Err(fault)
+                Err(GraphFault::NoMemory)
             }
             Ok(made) => {
                 self.tally.settle(&mut self.sources);

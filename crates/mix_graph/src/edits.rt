@@ -5,6 +5,7 @@ ghost use Rattle.mix_model.specs.Rows.{is_input, is_group};
 ghost use Rattle.mix_model.specs.Lookups.{row_passes};
 ghost use Rattle.mix_model.specs.Holders.{has_name, is_named, names};
 ghost use Rattle.mix_model.specs.Values.{is_place, is_sound, are_settings};
+ghost use Rattle.mix_model.specs.EditedShape.{EditedShape};
 ghost use Rattle.mix_model.specs.Marks.{edited};
 ghost use Rattle.mix_model.specs.Edits.{row_changed, item_removed, item_enabled, item_locked};
 ghost use Rattle.mix_model.specs.Edits.{item_placed, item_moved, input_set, renamed, source_removed};
@@ -28,6 +29,7 @@ pub enum Rename {
 impl Graph {
     /// Edits a row, and settles.
     pub(crate) fn edit_row(&mut self, serial: Serial, edit: RowEdit)
+        requires { EditedShape (row_changed serial (row_edited edit) self.old.present) }
         ensures { self.new ≡ edited (row_changed serial (row_edited edit)) self.old }
     {
         self.sources.edit_row(self.alloc, serial, edit);

@@ -35,13 +35,13 @@ pub struct Graph {
 
 impl Model for Graph {
     ghost use Rattle.mix_model.specs.Marks.{GraphModel};
-    ghost use Rattle.mix_graph.specs.Settling.{IsTold};
+    ghost use Rattle.mix_graph.specs.Whole.{IsWhole};
 
     ghost Value = { GraphModel };
 
     ghost view = { λ g. record { begun = g.tally.begun; present = g.sources } };
 
-    ghost invariant = { λ g. IsTold g.tally g.sources };
+    ghost invariant = { λ g. IsWhole g.tally g.sources };
 }
 
 impl Graph {
@@ -68,13 +68,16 @@ impl Graph {
         ensures refused { RefusedBy
             (scene_cause self.old.present name (scene_created name self.old.present)) result }
     {
+        if let Err(fault) = self.sources.check_source(name.bytes()) {
+            return Err(fault);
+        }
         let Ok(()) = self.tally.grow() else {
             return Err(GraphFault::NoMemory);
         };
         match self.sources.create_scene(self.alloc, name) {
-            Err(fault) => {
+            Err(_) => {
                 self.tally.cut(self.sources.rows().len());
-                Err(fault)
+                Err(GraphFault::NoMemory)
             }
             Ok(serial) => {
                 self.tally.settle(&mut self.sources);

@@ -1,19 +1,43 @@
 //! New inputs.
 ghost use Rattle.std.specs.Prelude.{◌≡◌, ◌<◌, None, Some, IsTrue, IfOk, IfSome, OnOk, OnErr};
+ghost use Rattle.mix_model.specs.declared.settings.Settings.{Settings};
 ghost use Rattle.mix_model.specs.Rows.{is_input};
-ghost use Rattle.mix_model.specs.Lookups.{row_of};
+ghost use Rattle.mix_model.specs.Lookups.{row_of, is_row};
 ghost use Rattle.mix_model.specs.Edits.{input_created};
-ghost use Rattle.mix_model.specs.Causes.{scene_cause};
+ghost use Rattle.mix_model.specs.Causes.{item_count};
+ghost use Rattle.mix_model.specs.Shape.{GraphShape};
 ghost use Rattle.mix_graph.specs.Refused.{RefusedBy};
 ghost use Rattle.mix_graph.specs.Created.{input_made, input_cause, wanted_item};
 
-use crate::created::{new_row, push_row, reserve_source};
+use crate::created::{new_row, reserve_source};
 use crate::sources::Sources;
-use mix_base::{ItemId, Name, Serial};
+use mix_base::{ItemId, Name, NoMemory, Serial};
 use mix_model::{GraphFault, ItemSpec, Kind, Settings};
 use std::alloc::Global;
 
 impl Sources {
+    /// Whether an input may have this name, and the item that is wanted for it may be there.
+    pub fn check_input(
+        &self,
+        name: &[u8],
+        kind: Kind,
+        wanted: &Option<(Serial, ItemSpec)>,
+    ) -> Result<(), GraphFault>
+        requires shape { GraphShape self.now }
+        requires input { IsTrue (is_input kind) }
+        ensures there { OnOk result
+            (IfSome wanted.now (λ w. IsTrue (is_row self.now w.0))) }
+        ensures few { OnOk result
+            (IfSome wanted.now (λ _. item_count self.now.rows < 2048)) }
+        ensures refused { (settings : Settings) → RefusedBy (input_cause self.now name.now wanted.now
+            (input_made name.now kind settings wanted.now self.now)) result }
+    {
+        match wanted {
+            None => self.check_source(name),
+            Some((parent, _)) => self.check_shown(name, kind, *parent),
+        }
+    }
+
     /// An input, last in the registry, which no item shows.
     fn create_hidden_input(
         &mut self,
@@ -21,30 +45,19 @@ impl Sources {
         name: Name,
         kind: Kind,
         settings: Settings,
-    ) -> Result<Serial, GraphFault>
+    ) -> Result<Serial, NoMemory>
         requires drawn { self.old.next_serial < 4294967295 }
         ensures reply { IfOk result (λ serial. serial ≡ self.old.next_serial) }
         ensures ok { OnOk result (self.new ≡ input_created name kind settings self.old) }
         ensures err { OnErr result (self.new ≡ self.old) }
-        ensures refused { RefusedBy
-            (scene_cause self.old name (input_created name kind settings self.old)) result }
     {
-        if self.has_name(name.bytes()) {
-            return Err(GraphFault::Exists);
-        }
         let serial = Serial(self.next_serial);
-        let Ok(()) = reserve_source(&mut self.rows, &mut self.dying, &mut self.inputs) else {
-            return Err(GraphFault::NoMemory);
-        };
+        reserve_source(&mut self.rows, &mut self.dying, &mut self.inputs)?;
         let row = new_row(alloc, serial, name, kind, settings);
-        match push_row(&mut self.rows, row) {
-            Err(fault) => Err(fault),
-            Ok(()) => {
-                self.inputs.push_reserved(serial);
-                self.next_serial += 1;
-                Ok(serial)
-            }
-        }
+        self.rows.push_reserved(row);
+        self.inputs.push_reserved(serial);
+        self.next_serial += 1;
+        Ok(serial)
     }
 
     /// An input, with an item that shows it where one is wanted.
@@ -55,8 +68,10 @@ impl Sources {
         kind: Kind,
         settings: Settings,
         wanted: Option<(Serial, ItemSpec)>,
-    ) -> Result<(Serial, Option<ItemId>), GraphFault>
+    ) -> Result<(Serial, Option<ItemId>), NoMemory>
         requires input { IsTrue (is_input kind) }
+        requires there { IfSome wanted (λ w. IsTrue (is_row self.old w.0)) }
+        requires few { IfSome wanted (λ _. item_count self.old.rows < 2048) }
         requires drawn { self.old.next_serial < 4294967295 }
         requires item_drawn { IfSome wanted (λ w. IfSome (row_of self.old w.0)
             (λ r. r.next_item < 4294967295)) }
@@ -65,8 +80,6 @@ impl Sources {
         ensures ok { OnOk result
             (self.new ≡ input_made name kind settings wanted self.old) }
         ensures err { OnErr result (self.new ≡ self.old) }
-        ensures refused { RefusedBy (input_cause self.old name wanted
-            (input_made name kind settings wanted self.old)) result }
     {
         match wanted {
             None => match self.create_hidden_input(alloc, name, kind, settings) {

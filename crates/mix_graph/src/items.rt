@@ -8,6 +8,7 @@ ghost use Rattle.mix_model.specs.Edits.{item_added, item_duplicated};
 ghost use Rattle.mix_graph.specs.Refused.{RefusedBy};
 
 use crate::Graph;
+use crate::added::spec_of;
 use mix_base::{ItemId, Serial};
 use mix_model::{GraphFault, ItemSpec};
 
@@ -29,8 +30,11 @@ impl Graph {
         ensures refused { RefusedBy (item_cause self.old.present parent child
             (item_added parent child spec self.old.present)) result }
     {
+        if let Err(fault) = self.sources.check_item(parent, child) {
+            return Err(fault);
+        }
         match self.sources.add_item(self.alloc, parent, child, &spec) {
-            Err(fault) => Err(fault),
+            Err(_) => Err(GraphFault::NoMemory),
             Ok(id) => {
                 self.tally.settle(&mut self.sources);
                 Ok(id)
@@ -53,8 +57,15 @@ impl Graph {
         ensures refused { RefusedBy (copy_cause self.old.present parent item to
             (item_duplicated parent item to self.old.present)) result }
     {
-        match self.sources.duplicate_item(self.alloc, parent, item, to) {
-            Err(fault) => Err(fault),
+        let copied = match self.sources.check_copy(parent, item, to) {
+            Err(fault) => return Err(fault),
+            Ok(copied) => copied,
+        };
+        match self
+            .sources
+            .add_item(self.alloc, to, copied.child, &spec_of(&copied))
+        {
+            Err(_) => Err(GraphFault::NoMemory),
             Ok(copy) => {
                 self.tally.settle(&mut self.sources);
                 Ok(copy)

@@ -23,12 +23,14 @@ mod removed;
 mod row_edit;
 mod search;
 mod settle;
+mod shape;
 mod shown;
 mod sources;
 mod tally;
 #[cfg(test)]
 mod tests;
 mod told;
+mod tree;
 
 pub use edits::Rename;
 pub use graph::{Graph, Missing};

@@ -1,40 +1,49 @@
-//! Why new rows and items are refused: sources too deep, too many or too heavy.
-ghost use Rattle.std.specs.Prelude.{◌≡◌, not, nat_le, nat_lt};
+//! Why a new item is refused: sources too deep, too many or too heavy.
+ghost use Rattle.std.specs.Prelude.{◌≡◌, ◌+◌, ◌≤◌, not, nat_le, nat_lt, length};
 ghost use Rattle.std.specs.List.{list_all};
-ghost use Rattle.mix_model.specs.Causes.{item_count, late_cause};
-ghost use Rattle.mix_graph.specs.Searched.{rank_in, weight_in, late_cause_in};
+ghost use Rattle.mix_model.specs.Causes.{item_count};
+ghost use Rattle.mix_graph.specs.Searched.{rank_with, weight_with, late_cause_with};
 
 use crate::search::{rank_from, weighed};
 use mix_base::Serial;
 use mix_model::{GraphFault, Row};
 
-#[tactic(auto, unfolding(crate::specs::Searched::rank_in))]
-fn is_shallow(rows: &[Row], serial: Serial) -> bool
-    ensures { result ≡ nat_le (rank_in rows.now serial) 16 }
-{
-    rank_from(rows, 17, serial) <= 16
+/// An item that would be new. Its child is a row, or would be a new one as well: a group or an input.
+#[derive(Clone, Copy)]
+pub struct NewItem {
+    pub parent: Serial,
+    pub child: Serial,
+    /// Whether the child would be a new group.
+    pub group: bool,
 }
 
-fn are_shallow(rows: &[Row]) -> bool
-    ensures { result ≡ list_all (λ r. nat_le (rank_in rows.now r.serial) 16) rows.now }
+#[tactic(auto, unfolding(crate::specs::Searched::rank_with))]
+fn is_shallow(rows: &[Row], new: &NewItem, serial: Serial) -> bool
+    ensures { result ≡ nat_le (rank_with new.now rows.now serial) 16 }
 {
-    rows.iter().all(|row| is_shallow(rows, row.serial))
+    rank_from(rows, new, 17, serial) <= 16
 }
 
-#[tactic(auto, unfolding(crate::specs::Searched::weight_in))]
-fn is_light(rows: &[Row], serial: Serial) -> bool
-    ensures { result ≡ nat_le (weight_in rows.now serial) 4096 }
+fn are_shallow(rows: &[Row], new: &NewItem) -> bool
+    ensures { result ≡ list_all (λ r. nat_le (rank_with new.now rows.now r.serial) 16) rows.now }
 {
-    match weighed(rows, 17, serial, 4096) {
+    rows.iter().all(|row| is_shallow(rows, new, row.serial))
+}
+
+#[tactic(auto, unfolding(crate::specs::Searched::weight_with))]
+fn is_light(rows: &[Row], new: &NewItem, serial: Serial) -> bool
+    ensures { result ≡ nat_le (weight_with new.now rows.now serial) 4096 }
+{
+    match weighed(rows, new, 17, serial, 4096) {
         Some(_) => true,
         None => false,
     }
 }
 
-fn are_light(rows: &[Row]) -> bool
-    ensures { result ≡ list_all (λ r. nat_le (weight_in rows.now r.serial) 4096) rows.now }
+fn are_light(rows: &[Row], new: &NewItem) -> bool
+    ensures { result ≡ list_all (λ r. nat_le (weight_with new.now rows.now r.serial) 4096) rows.now }
 {
-    rows.iter().all(|row| is_light(rows, row.serial))
+    rows.iter().all(|row| is_light(rows, new, row.serial))
 }
 
 /// Whether the rows have more items than this, all together.
@@ -52,21 +61,21 @@ fn has_more_items(rows: &[Row], most: usize) -> bool
     false
 }
 
-/// Why rows as these are refused.
-#[tactic(auto, unfolding(crate::specs::Searched::late_cause_in))]
-pub fn late_cause(rows: &[Row]) -> Option<GraphFault>
-    ensures { result ≡ late_cause_in rows.now }
+/// Why an item is refused, where there would then be so many rows.
+#[tactic(auto, unfolding(crate::specs::Searched::late_cause_with))]
+pub fn late_cause(rows: &[Row], new: &NewItem, count: usize) -> Option<GraphFault>
+    ensures { result ≡ late_cause_with new.now rows.now count }
 {
-    if !are_shallow(rows) {
+    if !are_shallow(rows, new) {
         return Some(GraphFault::Depth);
     }
-    if rows.len() > 512 {
+    if count > 512 {
         return Some(GraphFault::TooMany { limit: 512 });
     }
-    if has_more_items(rows, 2048) {
+    if has_more_items(rows, 2047) {
         return Some(GraphFault::TooMany { limit: 2048 });
     }
-    if !are_light(rows) {
+    if !are_light(rows, new) {
         return Some(GraphFault::TooMany { limit: 4096 });
     }
     None

@@ -8,8 +8,10 @@ ghost use Rattle.mix_model.specs.Rows.{is_at, has_items, serials_of};
 ghost use Rattle.mix_graph.specs.Asked.{is_next, nearer};
 ghost use Rattle.mix_model.specs.Ranks.{rank_by, weight_by};
 ghost use Rattle.mix_model.specs.Walks.{leads};
-ghost use Rattle.mix_graph.specs.Searched.{next_in, inside_in, flagged_also, chained_in};
+ghost use Rattle.std.specs.Prelude.{◌&&◌};
+ghost use Rattle.mix_graph.specs.Searched.{next_in, inside_with, flagged_also, chained_in};
 
+use crate::refused::NewItem;
 use mix_base::Serial;
 use mix_model::{Kind, Row};
 
@@ -67,23 +69,26 @@ pub fn flag_walked(rows: &[Row], rounds: u32, from: Serial, flags: &mut [bool])
     }
 }
 
-/// The rank of a row, or the number of rounds where it is no lower.
-pub fn rank_from(rows: &[Row], rounds: u32, of: Serial) -> u32
-    ensures value { result ≡ rank_by (inside_in rows.now) rounds of }
+/// The rank of a row with an item more, or the number of rounds where it is no lower.
+pub fn rank_from(rows: &[Row], new: &NewItem, rounds: u32, of: Serial) -> u32
+    ensures value { result ≡ rank_by (inside_with new.now rows.now) rounds of }
     ensures bound { result ≤ rounds }
 {
     if rounds == 0 {
         return 0;
     }
     let Some(row) = row_at(rows, of) else {
-        return 0;
+        return if is_new_group(new, of) { 1 } else { 0 };
     };
     if !has_items(row.kind) {
         return 0;
     }
     let mut most = 0;
+    if row.serial.0 == new.parent.0 {
+        most = rank_from(rows, new, rounds - 1, new.child);
+    }
     for item in row.items.as_slice() {
-        let rank = rank_from(rows, rounds - 1, item.child);
+        let rank = rank_from(rows, new, rounds - 1, item.child);
         if most < rank {
             most = rank;
         }
@@ -91,10 +96,10 @@ pub fn rank_from(rows: &[Row], rounds: u32, of: Serial) -> u32
     most + 1
 }
 
-/// What is left of an allowance after the weight of a row, where it is no lower.
-pub fn weighed(rows: &[Row], rounds: u32, of: Serial, most: u32) -> Option<u32>
-    ensures { MatchOption result (most < weight_by (inside_in rows.now) rounds of)
-        (λ left. left + weight_by (inside_in rows.now) rounds of ≡ most) }
+/// What is left of an allowance after the weight of a row with an item more, where it is no lower.
+pub fn weighed(rows: &[Row], new: &NewItem, rounds: u32, of: Serial, most: u32) -> Option<u32>
+    ensures { MatchOption result (most < weight_by (inside_with new.now rows.now) rounds of)
+        (λ left. left + weight_by (inside_with new.now rows.now) rounds of ≡ most) }
 {
     if rounds == 0 {
         return Some(most);
@@ -109,13 +114,26 @@ pub fn weighed(rows: &[Row], rounds: u32, of: Serial, most: u32) -> Option<u32>
     if !has_items(row.kind) {
         return Some(left);
     }
+    if row.serial.0 == new.parent.0 {
+        match weighed(rows, new, rounds - 1, new.child, left) {
+            Some(rest) => left = rest,
+            None => return None,
+        }
+    }
     for item in row.items.as_slice() {
-        match weighed(rows, rounds - 1, item.child, left) {
+        match weighed(rows, new, rounds - 1, item.child, left) {
             Some(rest) => left = rest,
             None => return None,
         }
     }
     Some(left)
+}
+
+/// Whether this is the serial of the new group.
+fn is_new_group(new: &NewItem, serial: Serial) -> bool
+    ensures { result ≡ (new.now.group && (new.now.child == serial)) }
+{
+    new.group && new.child.0 == serial.0
 }
 
 /// Whether this kind of source has items.

@@ -9,25 +9,37 @@ ghost use Rattle.mix_model.specs.Edits.{group_created, shown_input_created};
 ghost use Rattle.mix_model.specs.Causes.{shown_early, shown_cause};
 ghost use Rattle.mix_graph.specs.Refused.{RefusedBy};
 ghost use Rattle.mix_graph.specs.Created.{shown_added, listed, next_item};
-ghost use Rattle.mix_graph.specs.Searched.{late_cause_in, with_item_on};
+ghost use Rattle.mix_graph.specs.Searched.{with_item_on};
+ghost use Rattle.std.specs.Prelude.{◌-◌, take};
+ghost use Rattle.mix_model.specs.declared.item.ItemSpec.{ItemSpec};
+ghost use Rattle.mix_model.specs.declared.settings.Settings.{Settings};
+ghost use Rattle.mix_model.specs.Lookups.{is_row};
+ghost use Rattle.mix_model.specs.Causes.{item_count};
 
-use crate::added::try_item;
-use crate::created::{drop_last, new_row, reserve_source};
+use crate::added::push_item_at;
+use crate::created::{new_row, reserve_source};
+use crate::refused::{NewItem, late_cause};
 use crate::search::{has_items, place_of};
 use crate::sources::Sources;
-use mix_base::{ItemId, Name, Serial};
+use mix_base::{ItemId, Name, NoMemory, Serial};
 use mix_model::{GraphFault, ItemSpec, Kind, Row, Settings};
 use std::alloc::Global;
 
-/// Puts a row at the end, and an item that shows it on top of the row at an index, unless the rows
-/// are then refused.
+/// Takes the last row away.
+fn drop_last(rows: &mut Vec<Row>)
+    ensures rows { rows.new.items ≡ take (vec_len rows.old - 1) rows.old.items }
+{
+    let _ = rows.pop();
+}
+
+/// Puts a row at the end, and an item that shows it on top of the row at an index.
 fn push_shown(
     alloc: Global,
     rows: &mut Vec<Row>,
     at: usize,
     row: Row,
     spec: &ItemSpec,
-) -> Result<ItemId, GraphFault>
+) -> Result<ItemId, NoMemory>
     requires room { vec_len rows.old < vec_capacity rows.old }
     requires within { at < length rows.old.items }
     requires drawn { HoldsAt (λ r. r.next_item < 4294967295) rows.old.items at }
@@ -35,16 +47,14 @@ fn push_shown(
     ensures ok { OnOk result ((d : Row) → rows.new.items
         ≡ with_item_on (rows.old.items ++ row ∷ []) at row.serial spec.now d) }
     ensures err { OnErr result (rows.new.items ≡ rows.old.items) }
-    ensures cause { (d : Row) → RefusedBy (late_cause_in
-        (with_item_on (rows.old.items ++ row ∷ []) at row.serial spec.now d)) result }
 {
     let serial = row.serial;
     rows.push_reserved(row);
-    match try_item(alloc, rows, at, serial, spec) {
+    match push_item_at(alloc, rows, at, serial, spec) {
         Ok(id) => Ok(id),
-        Err(fault) => {
+        Err(_) => {
             drop_last(rows);
-            Err(fault)
+            Err(NoMemory)
         }
     }
 }
@@ -77,8 +87,31 @@ impl Sources {
         None
     }
 
+    /// Whether a group or an input may have this name, and an item on top of the parent may show it.
+    pub fn check_shown(&self, name: &[u8], kind: Kind, parent: Serial) -> Result<(), GraphFault>
+        ensures there { OnOk result (IsTrue (is_row self.now parent)) }
+        ensures few { OnOk result (item_count self.now.rows < 2048) }
+        ensures refused { (settings : Settings) (spec : ItemSpec) → RefusedBy (shown_cause
+            self.now name.now parent (shown_added name.now kind settings parent spec self.now)) result }
+    {
+        let early = self.shown_early(name, parent);
+        if let Some(fault) = early {
+            return Err(fault);
+        }
+        let new = NewItem {
+            parent,
+            child: Serial(self.next_serial),
+            group: has_items(kind),
+        };
+        let rows = self.rows.as_slice();
+        match late_cause(rows, &new, rows.len() + 1) {
+            Some(fault) => Err(fault),
+            None => Ok(()),
+        }
+    }
+
     /// A group or an input with an item on top of its parent.
-    fn add_shown(
+    pub fn add_shown(
         &mut self,
         alloc: Global,
         name: Name,
@@ -86,7 +119,9 @@ impl Sources {
         settings: Settings,
         parent: Serial,
         spec: &ItemSpec,
-    ) -> Result<(Serial, ItemId), GraphFault>
+    ) -> Result<(Serial, ItemId), NoMemory>
+        requires there { IsTrue (is_row self.old parent) }
+        requires few { item_count self.old.rows < 2048 }
         requires drawn { self.old.next_serial < 4294967295 }
         requires item_drawn { IfSome (row_of self.old parent) (λ r. r.next_item < 4294967295) }
         ensures serial { IfOk result (λ made. made.0 ≡ self.old.next_serial) }
@@ -94,20 +129,12 @@ impl Sources {
         ensures ok { OnOk result
             (self.new ≡ shown_added name kind settings parent spec.now self.old) }
         ensures err { OnErr result (self.new ≡ self.old) }
-        ensures refused { RefusedBy (shown_cause self.old name parent
-            (shown_added name kind settings parent spec.now self.old)) result }
     {
-        let early = self.shown_early(name.bytes(), parent);
-        if let Some(fault) = early {
-            return Err(fault);
-        }
         let Some(at) = place_of(self.rows.as_slice(), parent) else {
             unreachable!()
         };
         let serial = Serial(self.next_serial);
-        let Ok(()) = reserve_source(&mut self.rows, &mut self.dying, &mut self.inputs) else {
-            return Err(GraphFault::NoMemory);
-        };
+        reserve_source(&mut self.rows, &mut self.dying, &mut self.inputs)?;
         let row = new_row(alloc, serial, name, kind, settings);
         match push_shown(alloc, &mut self.rows, at, row, spec) {
             Err(fault) => Err(fault),
@@ -127,15 +154,15 @@ impl Sources {
         name: Name,
         parent: Serial,
         spec: &ItemSpec,
-    ) -> Result<(Serial, ItemId), GraphFault>
+    ) -> Result<(Serial, ItemId), NoMemory>
+        requires there { IsTrue (is_row self.old parent) }
+        requires few { item_count self.old.rows < 2048 }
         requires drawn { self.old.next_serial < 4294967295 }
         requires item_drawn { IfSome (row_of self.old parent) (λ r. r.next_item < 4294967295) }
         ensures serial { IfOk result (λ made. made.0 ≡ self.old.next_serial) }
         ensures item { IfOk result (λ made. next_item self.old parent ≡ Some made.1) }
         ensures ok { OnOk result (self.new ≡ group_created name parent spec.now self.old) }
         ensures err { OnErr result (self.new ≡ self.old) }
-        ensures refused { RefusedBy (shown_cause self.old name parent
-            (group_created name parent spec.now self.old)) result }
     {
         self.add_shown(alloc, name, Kind::Group, Settings::None, parent, spec)
     }
@@ -150,8 +177,10 @@ impl Sources {
         settings: Settings,
         parent: Serial,
         spec: &ItemSpec,
-    ) -> Result<(Serial, ItemId), GraphFault>
+    ) -> Result<(Serial, ItemId), NoMemory>
         requires input { IsTrue (is_input kind) }
+        requires there { IsTrue (is_row self.old parent) }
+        requires few { item_count self.old.rows < 2048 }
         requires drawn { self.old.next_serial < 4294967295 }
         requires item_drawn { IfSome (row_of self.old parent) (λ r. r.next_item < 4294967295) }
         ensures serial { IfOk result (λ made. made.0 ≡ self.old.next_serial) }
@@ -159,8 +188,6 @@ impl Sources {
         ensures ok { OnOk result (self.new
             ≡ shown_input_created name kind settings parent spec.now self.old) }
         ensures err { OnErr result (self.new ≡ self.old) }
-        ensures refused { RefusedBy (shown_cause self.old name parent
-            (shown_input_created name kind settings parent spec.now self.old)) result }
     {
         self.add_shown(alloc, name, kind, settings, parent, spec)
     }

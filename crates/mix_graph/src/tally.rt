@@ -1,7 +1,9 @@
 //! What is kept of when an action began, and what has changed since.
 ghost use Rattle.std.specs.Prelude.{◌≡◌, ◌≤◌, ◌<◌, ◌+◌, [], OnOk, OnErr, length, vec_capacity, vec_len};
 ghost use Rattle.mix_model.specs.Marks.{marks_of, settled_by};
+ghost use Rattle.mix_model.specs.EditedShape.{EditedShape};
 ghost use Rattle.mix_graph.specs.Settling.{IsTold, no_tally};
+ghost use Rattle.mix_graph.specs.Whole.{BegunAs, IsWhole};
 
 use crate::kept::Stood;
 use crate::settle::write_marks;
@@ -105,10 +107,12 @@ impl Tally {
 
     /// Settles the sources against the marks, and tells what has changed.
     pub fn settle(&mut self, sources: &mut Sources)
-        requires { self.old.count ≡ length sources.old.rows }
+        requires count { self.old.count ≡ length sources.old.rows }
+        requires edited { EditedShape sources.old }
+        requires begun { BegunAs self.old.begun sources.old.clock }
         ensures state { sources.new ≡ settled_by self.old.begun sources.old }
         ensures begun { self.new.begun ≡ self.old.begun }
-        ensures told { IsTold self.new sources.new }
+        ensures whole { IsWhole self.new sources.new }
     {
         sources.settle(self.begun.as_slice(), self.active.as_mut_slice());
         tell(

@@ -2,7 +2,7 @@
 use Rattle.std.proofs.Common.{◌≡◌, ◌-◌, ◌≤◌, drop, map, max, suc}
 use Rattle.mix_model.specs.Sets.{greatest}
 use Rattle.mix_model.specs.Ranks.{rank_by}
-use Rattle.mix_graph.specs.Searched.{inside_in}
+use Rattle.mix_graph.specs.Searched.{inside_with}
 use Rattle.mix_graph.proofs.search.+rank_from.Given as goal
 
 abbrev pub decreases-rank_from : goal.decreases-rank_from
@@ -10,8 +10,8 @@ decreases-rank_from l = l.rounds
 
 abbrev pub invariant-loop-item : goal.invariant-loop-item
 invariant-loop-item l = record {
-  value : suc (max l.most (greatest (map (λ c. rank_by (inside_in l.rows) (l.rounds - 1) c)
+  value : suc (max l.most (greatest (map (λ c. rank_by (inside_with l.new l.rows) (l.rounds - 1) c)
       (map (λ i. i.child) (drop l.item-index l.item-items)))))
-      ≡ rank_by (inside_in l.rows) l.rounds l.fn.of;
+      ≡ rank_by (inside_with l.new l.rows) l.rounds l.fn.of;
   bound : l.most ≤ l.rounds - 1;
 }

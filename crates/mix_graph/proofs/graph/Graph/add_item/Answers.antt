@@ -4,12 +4,26 @@ use Rattle.mix_model.specs.Marks.{edited}
 use Rattle.mix_model.specs.Items.{with_item}
 use Rattle.mix_model.specs.Edits.{item_added}
 use Rattle.mix_graph.proofs.ChangeLemmas.{changed_length}
+use Rattle.mix_graph.proofs.AddedShape.{item_added_shape}
+use Rattle.mix_graph.specs.Refused.{RefusedBy}
+use Rattle.mix_model.specs.Marks.{GraphModel}
+use Rattle.std.proofs.Common.{subst, Err}
+use Rattle.mix_graph.proofs.CreateLemmas.{refused_map}
+use Rattle.mix_model.specs.Causes.{item_cause}
+use Rattle.mix_base.specs.declared.numbers.ItemId.{ItemId}
 use Rattle.mix_graph.proofs.graph.Graph.add_item.Goals as goal
 
 pub settle-requires : goal.settle-requires
 unfolding item_added
-settle-requires c = rw c.in-Ok.ensures.ok (c.self.invariant.count
-    ∙ sym (changed_length c.args.parent (with_item c.args.child c.args.spec) c.self.inside.sources))
+settle-requires c = record {
+  count = rw c.in-Ok.ensures.ok (c.self.invariant.told.count
+      ∙ sym (changed_length c.args.parent (with_item c.args.child c.args.spec)
+      c.self.inside.sources));
+  edited = rw c.in-Ok.ensures.ok (item_added_shape c.args.parent c.args.child c.args.spec
+      c.self.inside.sources c.self.invariant.shape c.requires.place
+      (c.in_default.ensures.refused c.args.spec));
+  begun = rw c.in-Ok.ensures.ok c.self.invariant.begun;
+}
 
 pub returns-in-Ok-clause-ok : goal.returns-in-Ok-clause-ok
 unfolding edited
@@ -19,3 +33,10 @@ returns-in-Ok-clause-ok c = rw (
   ← c.self.view_is,
   c.in-Ok.ensures.ok,
 )
+
+pub returns-in-Err-clause-refused : goal.returns-in-Err-clause-refused
+returns-in-Err-clause-refused c =
+    subst (λ (m : GraphModel). RefusedBy {T = ItemId} (item_cause m.present c.args.parent c.args.child
+    (item_added c.args.parent c.args.child c.args.spec m.present)) (Err c.in-Err.fault))
+    c.self.view_is
+    (refused_map (Unit {0}) ItemId _ c.in-Err.fault (c.in-Err.ensures.refused c.args.spec))

@@ -3,9 +3,26 @@ use Rattle.std.proofs.Common.{◌≡◌, ◌+◌, ap, length, arith}
 use Rattle.mix_model.specs.Marks.{edited}
 use Rattle.mix_graph.specs.Settling.{Tallied}
 use Rattle.mix_graph.proofs.ShownLemmas.{group_count}
+use Rattle.mix_model.specs.Edits.{group_created, item_added}
+use Rattle.mix_graph.proofs.CreatedShape.{group_created_shape}
+use Rattle.mix_graph.proofs.CreateLemmas.{refused_same}
+use Rattle.mix_graph.proofs.ShownLemmas.{shown_group}
+use Rattle.mix_model.specs.declared.settings.Settings.TheVariants.{None as NoSettings}
+use Rattle.mix_base.specs.declared.numbers.ItemId.{ItemId}
+use Rattle.mix_base.specs.declared.numbers.Serial.{Serial}
+use Rattle.std.proofs.Common.{refl}
+use Rattle.mix_graph.specs.Refused.{RefusedBy}
+use Rattle.mix_model.specs.Marks.{GraphModel}
+use Rattle.std.proofs.Common.{subst, Err}
+use Rattle.mix_graph.proofs.CreateLemmas.{refused_map}
+use Rattle.mix_model.specs.Causes.{shown_cause}
+use Rattle.mix_graph.specs.Created.{shown_added}
+use Rattle.mix_model.specs.declared.kind.Kind.TheVariants.{Group}
+use Rattle.std.proofs.Common.{◌∙◌}
 use Rattle.mix_graph.proofs.graph.Graph.create_group.Goals as goal
 
 pub settle-requires : goal.settle-requires
+unfolding group_created item_added
 settle-requires c =
     let more : length c.create_group.new.self.rows ≡ length c.self.inside.sources.rows + 1 =
     rw c.in-Ok-create_group.ensures.ok (group_count c.args.name c.args.parent c.args.spec
@@ -13,8 +30,15 @@ settle-requires c =
     let grown : c.grow.new.self.count ≡ c.self.inside.tally.count + 1 =
     ap (λ (t : Tallied). t.count) c.in-Ok.ensures.ok in
     let each : c.self.inside.tally.count ≡ length c.self.inside.sources.rows =
-    c.self.invariant.count in
-    omega (arith, more, grown, each)
+    c.self.invariant.told.count in
+    record {
+      count = omega (arith, more, grown, each);
+      edited = rw c.in-Ok-create_group.ensures.ok (group_created_shape c.args.name c.args.parent c.args.spec c.self.inside.sources
+          c.self.invariant.shape c.requires.place
+          (rw (← shown_group c.args.name c.args.parent c.args.spec c.self.inside.sources)
+          (rw c.bytes.ensures.value at (c.in_default.ensures.refused NoSettings c.args.spec))));
+      begun = rw (c.in-Ok.ensures.ok, c.in-Ok-create_group.ensures.ok) c.self.invariant.begun;
+    }
 
 pub returns-in-Ok-create_group-clause-ok : goal.returns-in-Ok-create_group-clause-ok
 unfolding edited
@@ -25,3 +49,28 @@ returns-in-Ok-create_group-clause-ok c = rw (
   ← c.self.view_is,
   c.in-Ok-create_group.ensures.ok,
 )
+
+pub returns-in-Err-clause-refused : goal.returns-in-Err-clause-refused
+returns-in-Err-clause-refused c =
+    subst (λ (m : GraphModel). RefusedBy {T = (Serial × ItemId)} (shown_cause m.present c.args.name c.args.parent
+    (group_created c.args.name c.args.parent c.args.spec m.present)) (Err c.in-Err.fault))
+    c.self.view_is
+    (refused_same (Unit {0}) (Serial × ItemId) _ _ c.in-Err.fault
+    (ap (λ n. shown_cause c.self.inside.sources n c.args.parent
+    (shown_added n Group NoSettings c.args.parent c.args.spec c.self.inside.sources))
+    c.bytes.ensures.value
+    ∙ ap (shown_cause c.self.inside.sources c.args.name c.args.parent)
+    (shown_group c.args.name c.args.parent c.args.spec c.self.inside.sources))
+    (c.in-Err.ensures.refused NoSettings c.args.spec))
+
+pub returns-in_default-grow-clause-refused : goal.returns-in_default-grow-clause-refused
+returns-in_default-grow-clause-refused c = rw (← c.self.view_is) (rw (← shown_group c.args.name c.args.parent c.args.spec c.self.inside.sources)
+    (rw c.bytes.ensures.value at (c.in_default.ensures.refused NoSettings c.args.spec)))
+
+pub returns-in-Err-create_group-clause-refused : goal.returns-in-Err-create_group-clause-refused
+returns-in-Err-create_group-clause-refused c = rw (← c.self.view_is) (rw (← shown_group c.args.name c.args.parent c.args.spec c.self.inside.sources)
+    (rw c.bytes.ensures.value at (c.in_default.ensures.refused NoSettings c.args.spec)))
+
+pub returns-in-Ok-create_group-clause-refused : goal.returns-in-Ok-create_group-clause-refused
+returns-in-Ok-create_group-clause-refused c = rw (← c.self.view_is) (rw (← shown_group c.args.name c.args.parent c.args.spec c.self.inside.sources)
+    (rw c.bytes.ensures.value at (c.in_default.ensures.refused NoSettings c.args.spec)))

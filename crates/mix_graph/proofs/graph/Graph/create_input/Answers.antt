@@ -3,6 +3,16 @@ use Rattle.std.proofs.Common.{◌≡◌, ◌+◌, ap, length, arith}
 use Rattle.mix_model.specs.Marks.{edited}
 use Rattle.mix_graph.specs.Settling.{Tallied}
 use Rattle.mix_graph.proofs.ShownLemmas.{input_count}
+use Rattle.mix_graph.proofs.CreatedShape.{input_made_shape, made_clock, wanted_place}
+use Rattle.mix_graph.proofs.CreateLemmas.{refused_same}
+use Rattle.mix_base.specs.declared.numbers.ItemId.{ItemId}
+use Rattle.mix_base.specs.declared.numbers.Serial.{Serial}
+use Rattle.std.proofs.Common.{refl, Option}
+use Rattle.mix_graph.specs.Refused.{RefusedBy}
+use Rattle.mix_model.specs.Marks.{GraphModel}
+use Rattle.std.proofs.Common.{subst, Err}
+use Rattle.mix_graph.proofs.CreateLemmas.{refused_map}
+use Rattle.mix_graph.specs.Created.{input_cause, input_made}
 use Rattle.mix_graph.proofs.graph.Graph.create_input.Goals as goal
 
 pub settle-requires : goal.settle-requires
@@ -13,8 +23,20 @@ settle-requires c =
     let grown : c.grow.new.self.count ≡ c.self.inside.tally.count + 1 =
     ap (λ (t : Tallied). t.count) c.in-Ok.ensures.ok in
     let each : c.self.inside.tally.count ≡ length c.self.inside.sources.rows =
-    c.self.invariant.count in
-    omega (arith, more, grown, each)
+    c.self.invariant.told.count in
+    record {
+      count = omega (arith, more, grown, each);
+      edited = rw c.in-Ok-create_input.ensures.ok (input_made_shape c.args.name c.args.kind
+          c.args.settings c.args.parent c.self.inside.sources c.self.invariant.shape
+          c.requires.input (wanted_place c.args.parent c.requires.place)
+          (rw c.bytes.ensures.value at (c.in_default.ensures.refused c.args.settings)));
+      begun = rw (
+        c.in-Ok.ensures.ok,
+        c.in-Ok-create_input.ensures.ok,
+        made_clock c.args.name
+            c.args.kind c.args.settings c.args.parent c.self.inside.sources,
+      ) c.self.invariant.begun;
+    }
 
 pub returns-in-Ok-create_input-clause-ok : goal.returns-in-Ok-create_input-clause-ok
 unfolding edited
@@ -25,3 +47,22 @@ returns-in-Ok-create_input-clause-ok c = rw (
   ← c.self.view_is,
   c.in-Ok-create_input.ensures.ok,
 )
+
+pub returns-in-Err-clause-refused : goal.returns-in-Err-clause-refused
+returns-in-Err-clause-refused c =
+    subst (λ (m : GraphModel). RefusedBy {T = (Serial × Option ItemId)} (input_cause m.present c.args.name c.args.parent
+    (input_made c.args.name c.args.kind c.args.settings c.args.parent m.present)) (Err c.in-Err.fault))
+    c.self.view_is
+    (refused_same (Unit {0}) (Serial × Option ItemId) _ _ c.in-Err.fault
+    (ap (λ n. input_cause c.self.inside.sources n c.args.parent
+    (input_made n c.args.kind c.args.settings c.args.parent c.self.inside.sources))
+    c.bytes.ensures.value) (c.in-Err.ensures.refused c.args.settings))
+
+pub returns-in_default-grow-clause-refused : goal.returns-in_default-grow-clause-refused
+returns-in_default-grow-clause-refused c = rw (← c.self.view_is) (rw c.bytes.ensures.value at (c.in_default.ensures.refused c.args.settings))
+
+pub returns-in-Err-create_input-clause-refused : goal.returns-in-Err-create_input-clause-refused
+returns-in-Err-create_input-clause-refused c = rw (← c.self.view_is) (rw c.bytes.ensures.value at (c.in_default.ensures.refused c.args.settings))
+
+pub returns-in-Ok-create_input-clause-refused : goal.returns-in-Ok-create_input-clause-refused
+returns-in-Ok-create_input-clause-refused c = rw (← c.self.view_is) (rw c.bytes.ensures.value at (c.in_default.ensures.refused c.args.settings))

@@ -3,9 +3,21 @@ use Rattle.std.proofs.Common.{◌≡◌, ◌+◌, ap, length, arith}
 use Rattle.mix_model.specs.Marks.{edited}
 use Rattle.mix_graph.specs.Settling.{Tallied}
 use Rattle.mix_graph.proofs.ShownLemmas.{scene_count}
+use Rattle.mix_model.specs.Edits.{scene_created}
+use Rattle.mix_graph.proofs.CreatedShape.{scene_created_shape}
+use Rattle.mix_graph.proofs.CreateLemmas.{refused_same}
+use Rattle.mix_graph.proofs.BareLemmas.{bare_scene}
+use Rattle.mix_base.specs.declared.numbers.Serial.{Serial}
+use Rattle.std.proofs.Common.{sym, ◌∙◌}
+use Rattle.mix_graph.specs.Refused.{RefusedBy}
+use Rattle.mix_model.specs.Marks.{GraphModel}
+use Rattle.std.proofs.Common.{subst, Err}
+use Rattle.mix_model.specs.Causes.{scene_cause}
+use Rattle.mix_graph.specs.Refused.{bare_cause}
 use Rattle.mix_graph.proofs.graph.Graph.create_scene.Goals as goal
 
 pub settle-requires : goal.settle-requires
+unfolding scene_created
 settle-requires c =
     let more : length c.create_scene.new.self.rows ≡ length c.self.inside.sources.rows + 1 =
     rw c.in-Ok-create_scene.ensures.ok (scene_count c.args.name
@@ -13,8 +25,15 @@ settle-requires c =
     let grown : c.grow.new.self.count ≡ c.self.inside.tally.count + 1 =
     ap (λ (t : Tallied). t.count) c.in-Ok.ensures.ok in
     let each : c.self.inside.tally.count ≡ length c.self.inside.sources.rows =
-    c.self.invariant.count in
-    omega (arith, more, grown, each)
+    c.self.invariant.told.count in
+    record {
+      count = omega (arith, more, grown, each);
+      edited = rw c.in-Ok-create_scene.ensures.ok (scene_created_shape c.args.name c.self.inside.sources
+          c.self.invariant.shape
+          (bare_scene c.args.name c.self.inside.sources c.self.invariant.shape
+          ∙ rw c.bytes.ensures.value at c.in_default.ensures.refused));
+      begun = rw (c.in-Ok.ensures.ok, c.in-Ok-create_scene.ensures.ok) c.self.invariant.begun;
+    }
 
 pub returns-in-Ok-create_scene-clause-ok : goal.returns-in-Ok-create_scene-clause-ok
 unfolding edited
@@ -25,3 +44,25 @@ returns-in-Ok-create_scene-clause-ok c = rw (
   ← c.self.view_is,
   c.in-Ok-create_scene.ensures.ok,
 )
+
+pub returns-in-Err-clause-refused : goal.returns-in-Err-clause-refused
+returns-in-Err-clause-refused c =
+    subst (λ (m : GraphModel). RefusedBy {T = Serial} (scene_cause m.present c.args.name
+    (scene_created c.args.name m.present)) (Err c.in-Err.fault))
+    c.self.view_is
+    (refused_same (Unit {0}) Serial _ _ c.in-Err.fault
+    (ap (bare_cause c.self.inside.sources) c.bytes.ensures.value
+    ∙ sym (bare_scene c.args.name c.self.inside.sources c.self.invariant.shape))
+    c.in-Err.ensures.refused)
+
+pub returns-in_default-grow-clause-refused : goal.returns-in_default-grow-clause-refused
+returns-in_default-grow-clause-refused c = rw (← c.self.view_is) (bare_scene c.args.name c.self.inside.sources c.self.invariant.shape
+    ∙ rw c.bytes.ensures.value at c.in_default.ensures.refused)
+
+pub returns-in-Err-create_scene-clause-refused : goal.returns-in-Err-create_scene-clause-refused
+returns-in-Err-create_scene-clause-refused c = rw (← c.self.view_is) (bare_scene c.args.name c.self.inside.sources c.self.invariant.shape
+    ∙ rw c.bytes.ensures.value at c.in_default.ensures.refused)
+
+pub returns-in-Ok-create_scene-clause-refused : goal.returns-in-Ok-create_scene-clause-refused
+returns-in-Ok-create_scene-clause-refused c = rw (← c.self.view_is) (bare_scene c.args.name c.self.inside.sources c.self.invariant.shape
+    ∙ rw c.bytes.ensures.value at c.in_default.ensures.refused)

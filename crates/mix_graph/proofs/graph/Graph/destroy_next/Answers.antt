@@ -3,6 +3,8 @@ use Rattle.std.proofs.Common.{◌≡◌, ◌≤◌, ap, length, arith}
 use Rattle.mix_model.specs.Marks.{edited}
 use Rattle.mix_graph.specs.Settling.{Tallied}
 use Rattle.mix_graph.proofs.DestroyLemmas.{destroyed_less}
+use Rattle.mix_graph.proofs.DestroyedShape.{next_destroyed_shape, destroyed_clock}
+use Rattle.std.proofs.Common.{refl}
 use Rattle.mix_graph.proofs.graph.Graph.destroy_next.Goals as goal
 
 pub cut-requires : goal.cut-requires
@@ -13,7 +15,7 @@ cut-requires c =
     let count : length c.rows.result.now ≡ length c.destroy_next-destroyed.new.self.rows =
     ap length c.rows.ensures.value in
     let each : c.self.inside.tally.count ≡ length c.self.inside.sources.rows =
-    c.self.invariant.count in
+    c.self.invariant.told.count in
     record { fewer = omega (arith, less, count, each) }
 
 pub returns-clause-state : goal.returns-clause-state
@@ -25,3 +27,15 @@ returns-clause-state c = rw (
   ← c.self.view_is,
   c.destroy_next-destroyed.ensures.state,
 )
+
+pub settle-requires : goal.settle-requires
+settle-requires c = record {
+  count = rw (c.cut.ensures.value, c.rows.ensures.value) refl;
+  edited = rw c.destroy_next-destroyed.ensures.state
+      (next_destroyed_shape c.self.inside.sources c.self.invariant.shape);
+  begun = rw (
+    c.cut.ensures.value,
+    c.destroy_next-destroyed.ensures.state,
+    destroyed_clock c.self.inside.sources,
+  ) c.self.invariant.begun;
+}

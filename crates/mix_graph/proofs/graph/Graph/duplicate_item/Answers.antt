@@ -1,18 +1,38 @@
 -- the edit leaves the number of rows, and the sources are settled
 use Rattle.std.proofs.Common.{sym, ◌∙◌}
 use Rattle.mix_model.specs.Marks.{edited}
-use Rattle.mix_graph.proofs.ItemLemmas.{copied_length}
+use Rattle.mix_model.specs.Items.{with_item}
+use Rattle.mix_model.specs.Edits.{item_added}
+use Rattle.mix_graph.proofs.ChangeLemmas.{changed_length}
+use Rattle.mix_graph.proofs.ItemLemmas.{copy_put}
+use Rattle.mix_graph.proofs.AddedShape.{duplicated_shape}
 use Rattle.mix_graph.proofs.graph.Graph.duplicate_item.Goals as goal
 
 pub settle-requires : goal.settle-requires
-settle-requires c = rw c.in-Ok.ensures.ok (c.self.invariant.count
-    ∙ sym (copied_length c.args.parent c.args.item c.args.to c.self.inside.sources))
+unfolding item_added
+settle-requires c = record {
+  count = rw c.in-Ok-add_item.ensures.ok (c.self.invariant.told.count
+      ∙ sym (changed_length c.args.to (with_item c.in-Ok.copied.child c.spec_of.result)
+      c.self.inside.sources));
+  edited = rw (
+    c.in-Ok-add_item.ensures.ok,
+    c.spec_of.ensures,
+    ← copy_put c.self.inside.sources
+        c.args.parent c.args.item c.args.to c.in-Ok.copied c.in-Ok.ensures.item,
+  )
+      (duplicated_shape c.args.parent c.args.item c.args.to c.self.inside.sources
+      c.self.invariant.shape c.in-Ok.ensures.refused);
+  begun = rw c.in-Ok-add_item.ensures.ok c.self.invariant.begun;
+}
 
-pub returns-in-Ok-clause-ok : goal.returns-in-Ok-clause-ok
+pub returns-in-Ok-add_item-clause-ok : goal.returns-in-Ok-add_item-clause-ok
 unfolding edited
-returns-in-Ok-clause-ok c = rw (
+returns-in-Ok-add_item-clause-ok c = rw (
   c.settle.ensures.state,
   c.settle.ensures.begun,
   ← c.self.view_is,
-  c.in-Ok.ensures.ok,
+  c.in-Ok-add_item.ensures.ok,
+  c.spec_of.ensures,
+  ← copy_put c.self.inside.sources c.args.parent c.args.item c.args.to c.in-Ok.copied
+      c.in-Ok.ensures.item,
 )

@@ -6,8 +6,12 @@ use Rattle.mix_graph.proofs.ChangeLemmas.{changed_length}
 use Rattle.mix_graph.proofs.graph.Graph.edit_row.Goals as goal
 
 pub settle-requires : goal.settle-requires
-settle-requires c = rw c.edit_row.ensures (c.self.invariant.count
-    ∙ sym (changed_length c.args.serial (row_edited c.args.edit) c.self.inside.sources))
+settle-requires c = record {
+  count = rw c.edit_row.ensures (c.self.invariant.told.count
+      ∙ sym (changed_length c.args.serial (row_edited c.args.edit) c.self.inside.sources));
+  edited = rw c.edit_row.ensures (rw (← c.self.view_is) at c.requires);
+  begun = rw c.edit_row.ensures c.self.invariant.begun;
+}
 
 pub returns : goal.returns
 unfolding edited

@@ -1,11 +1,16 @@
 -- the edit leaves the rows, and the sources are settled
 use Rattle.mix_model.specs.Marks.{edited}
 use Rattle.mix_model.specs.Edits.{hold_made}
+use Rattle.mix_graph.proofs.HoldShape.{hold_made_shape}
 use Rattle.mix_graph.proofs.graph.Graph.hold.Goals as goal
 
 pub settle-requires : goal.settle-requires
 unfolding hold_made
-settle-requires c = rw c.in-Ok.ensures.ok c.self.invariant.count
+settle-requires c = record {
+  count = rw c.in-Ok.ensures.ok c.self.invariant.told.count;
+  edited = rw c.in-Ok.ensures.ok (hold_made_shape c.args.serial c.self.inside.sources c.self.invariant.shape c.in-Ok.ensures.refused);
+  begun = rw c.in-Ok.ensures.ok c.self.invariant.begun;
+}
 
 pub returns-in-Ok-clause-ok : goal.returns-in-Ok-clause-ok
 unfolding edited

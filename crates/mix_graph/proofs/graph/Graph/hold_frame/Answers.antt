@@ -1,11 +1,16 @@
 -- the edit leaves the rows, and the sources are settled
 use Rattle.mix_model.specs.Marks.{edited}
 use Rattle.mix_model.specs.Edits.{frame_held}
+use Rattle.mix_graph.proofs.HoldShape.{frame_held_shape}
 use Rattle.mix_graph.proofs.graph.Graph.hold_frame.Goals as goal
 
 pub settle-requires : goal.settle-requires
 unfolding frame_held
-settle-requires c = rw c.in-Ok.ensures.ok c.self.invariant.count
+settle-requires c = record {
+  count = rw c.in-Ok.ensures.ok c.self.invariant.told.count;
+  edited = rw c.in-Ok.ensures.ok (frame_held_shape c.args.number c.self.inside.sources c.self.invariant.shape c.in-Ok.ensures.refused (rw (← c.self.view_is) at c.requires.fresh));
+  begun = rw c.in-Ok.ensures.ok c.self.invariant.begun;
+}
 
 pub returns-in-Ok-clause-ok : goal.returns-in-Ok-clause-ok
 unfolding edited

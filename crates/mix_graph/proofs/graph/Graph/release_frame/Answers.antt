@@ -1,11 +1,16 @@
 -- the edit leaves the rows, and the sources are settled
 use Rattle.mix_model.specs.Marks.{edited}
 use Rattle.mix_model.specs.Edits.{frame_released}
+use Rattle.mix_graph.proofs.HoldShape.{frame_released_shape}
 use Rattle.mix_graph.proofs.graph.Graph.release_frame.Goals as goal
 
 pub settle-requires : goal.settle-requires
 unfolding frame_released
-settle-requires c = rw c.release_frame.ensures c.self.invariant.count
+settle-requires c = record {
+  count = rw c.release_frame.ensures c.self.invariant.told.count;
+  edited = rw c.release_frame.ensures (frame_released_shape c.args.number c.self.inside.sources c.self.invariant.shape);
+  begun = rw c.release_frame.ensures c.self.invariant.begun;
+}
 
 pub returns-clause-ok : goal.returns-clause-ok
 unfolding edited

@@ -1,11 +1,16 @@
 -- the edit leaves the rows, and the sources are settled
 use Rattle.mix_model.specs.Marks.{edited}
 use Rattle.mix_model.specs.Edits.{watch_made}
+use Rattle.mix_graph.proofs.HoldShape.{watch_made_shape}
 use Rattle.mix_graph.proofs.graph.Graph.watch.Goals as goal
 
 pub settle-requires : goal.settle-requires
 unfolding watch_made
-settle-requires c = rw c.in-Ok.ensures.ok c.self.invariant.count
+settle-requires c = record {
+  count = rw c.in-Ok.ensures.ok c.self.invariant.told.count;
+  edited = rw c.in-Ok.ensures.ok (watch_made_shape c.args.serial c.self.inside.sources c.self.invariant.shape c.in-Ok.ensures.refused);
+  begun = rw c.in-Ok.ensures.ok c.self.invariant.begun;
+}
 
 pub returns-in-Ok-clause-ok : goal.returns-in-Ok-clause-ok
 unfolding edited
