@@ -1,7 +1,7 @@
 -- each value is in its range
 use Rattle.std.proofs.Common.{refl}
 use Rattle.mix_model.specs.Values.{is_place}
-use Rattle.mix_graph.proofs.tests.plain.Goals as goal
+use Rattle.mix_graph.proofs.tests.calls.plain.Goals as goal
 
 pub returns : goal.returns
 unfolding is_place
