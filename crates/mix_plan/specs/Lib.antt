@@ -1,0 +1,4 @@
+pub mod Listed
+pub mod Seen
+pub mod Laws
+pub mod Small
