@@ -1,14 +1,17 @@
 -- No answer has a fractional number, and each status that refuses a request has a name.
-use Rattle.std.proofs.Common.{◌≡◌, ℕ, ◌+◌, List, [], ◌∷◌, ◌++◌, false, refl, IsTrue}
+use Rattle.std.proofs.Common.{◌≡◌, ℕ, ◌+◌, List, [], ◌∷◌, ◌++◌, Bool, true, false, refl, IsTrue}
 use Rattle.std.proofs.Common.{rules, pos, is_some, codes, Option, Some, None, Result, Ok, Err}
+use Rattle.std.specs.Prelude.{if◌then◌else◌}
 use Rattle.mix_base.specs.declared.json.Json.{Json, the_lemmas}
 use Rattle.mix_base.specs.declared.json.Json as json
 use Rattle.mix_base.specs.declared.name.NameFault.{NameFault}
 use Rattle.mix_base.specs.declared.name.NameFault.TheVariants.{Empty, Long, NotUtf8, Control}
-use Rattle.mix_base.specs.Json.{Object, has_frac, list_has_frac, obj_has_frac, as_text, present}
+use Rattle.mix_base.specs.Json.{Object, has_frac, list_has_frac, obj_has_frac, as_obj, as_text}
+use Rattle.mix_base.specs.Json.{present}
 use Rattle.mix_base.specs.Names.{name_fault}
 use Rattle.mix_base.specs.Uuids.{uuid_of}
-use Rattle.mix_json.specs.Fields.{◌>>=◌, need_text, or_status, typed}
+use Rattle.mix_json.specs.Fields.{◌>>=◌, need, need_kept, need_obj, need_text, or_status, typed}
+use Rattle.mix_json.specs.Fields.{wrong_type}
 use Rattle.mix_json.specs.Trees.{obj_of, put_fields, with_field}
 use Rattle.mix_json.proofs.TreeLemmas.{obj_whole, list_whole, put_whole}
 use Rattle.mix_model.specs.declared.body.Body.{Body}
@@ -18,6 +21,7 @@ use Rattle.mix_model.specs.Program.{target_of}
 use Rattle.mix_model.specs.Walks.{usable_preview}
 use Rattle.mix_events.specs.Sayable.{IsWholeAnswer}
 use Rattle.mix_events.specs.Statuses.{status_name}
+use Rattle.mix_engine.specs.CustomEvents.{custom_data}
 use Rattle.mix_engine.specs.Effects.{answer_of, needed_fields, name_or, new_name}
 use Rattle.mix_engine.specs.SceneRequests.{named_scene, scene_or_null, entry_fields, scene_entry}
 use Rattle.mix_engine.specs.SceneRequests.{scene_entries, preview_fields, program_fields}
@@ -128,15 +132,16 @@ name_or_named bytes (Some Long) = refl
 name_or_named bytes (Some NotUtf8) = refl
 name_or_named bytes (Some Control) = refl
 
-text_named : (key : List ℕ) (fields : Object) → Named (need_text key fields)
+need_named : {A : Type 0} (as_type : Json → Option A) (key : List ℕ) (fields : Object) →
+    Named (need as_type key fields)
 unfolding status_name
-text_named key fields = then_named (or_status 300 (present key fields)) (typed as_text)
-    (or_named 300 (present key fields) refl) (λ value. or_named 401 (as_text value) refl)
+need_named as_type key fields = then_named (or_status 300 (present key fields)) (typed as_type)
+    (or_named 300 (present key fields) refl) (λ value. or_named 401 (as_type value) refl)
 
 new_name_named : (key : List ℕ) (fields : Object) → Named (new_name key fields)
 unfolding new_name
 new_name_named key fields = then_named (need_text key fields)
-    (λ bytes. name_or bytes (name_fault bytes)) (text_named key fields)
+    (λ bytes. name_or bytes (name_fault bytes)) (need_named as_text key fields)
     (λ bytes. name_or_named bytes (name_fault bytes))
 
 needed_named : (body : Body) → Named (needed_fields body)
@@ -149,3 +154,19 @@ needed_named Wrong = refl
 pub scene_name_named : (body : Body) → Named (scene_name body)
 scene_name_named body = then_named (needed_fields body) (new_name (codes "sceneName"))
     (needed_named body) (new_name_named (codes "sceneName"))
+
+whole_named : (fraction : Bool) (kept : Object) →
+    Named {A = Object} (if fraction then Err wrong_type else Ok kept)
+unfolding status_name
+whole_named true kept = refl
+whole_named false kept = tt
+
+kept_named : (key : List ℕ) (fields : Object) → Named (need_kept key fields)
+kept_named key fields = then_named (need_obj key fields)
+    (λ kept. if obj_has_frac kept then Err wrong_type else Ok kept) (need_named as_obj key fields)
+    (λ kept. whole_named (obj_has_frac kept) kept)
+
+-- and that of data which no event can have
+pub custom_data_named : (body : Body) → Named (custom_data body)
+custom_data_named body = then_named (needed_fields body) (need_kept (codes "eventData"))
+    (needed_named body) (kept_named (codes "eventData"))

@@ -1,8 +1,10 @@
 -- Why a new scene is refused, as a status.
 use Rattle.std.proofs.Common.{◌≡◌, ◌≢◌, ℕ, Bool, true, false, List, [], ◌∷◌, Option, Some, None}
 use Rattle.std.proofs.Common.{length, not}
-use Rattle.std.proofs.Common.{is_some, Result, Ok, Err, refl, sym, ap, ◌∙◌}
+use Rattle.std.proofs.Common.{is_some, Result, Ok, Err, refl, sym, ap, ◌∙◌, subst, ◌<◌, ◌^◌}
 use Rattle.mix_json.specs.Fields.{◌>>=◌, refused_if}
+use Rattle.mix_model.specs.declared.event.Event.TheVariants.{SceneCreated}
+use Rattle.mix_model.specs.declared.event.Twin.{Twin}
 use Rattle.mix_model.specs.declared.fault.GraphFault.{GraphFault}
 use Rattle.mix_model.specs.declared.fault.GraphFault.TheVariants.{NotFound, WrongKind, Exists}
 use Rattle.mix_model.specs.declared.fault.GraphFault.TheVariants.{Cycle, Depth, TooMany, NoMemory}
@@ -24,7 +26,10 @@ use Rattle.mix_model.specs.Settle.{settle}
 use Rattle.mix_model.specs.Studio.{studio_settled}
 use Rattle.mix_engine.specs.Requests.{answer_in, studio_in}
 use Rattle.mix_engine.specs.SceneRequests.{scene_made, scene_creation, creation_fields}
-use Rattle.mix_engine.specs.SceneRequests.{refusal}
+use Rattle.mix_engine.specs.SceneRequests.{refusal, scene_added}
+use Rattle.mix_engine.specs.Settled.{settling_events}
+use Rattle.mix_engine.specs.Telling.{IsTwin, TellsEffect}
+use Rattle.mix_engine.proofs.TellingLemmas.{settling_unheard, tells_one}
 
 -- the status of a scene whose name is taken, or for which there is too much
 abbrev made : {A : Type 0} → Bool → Option GraphFault → A → Result A ℕ
@@ -135,3 +140,19 @@ refused_answer s made status is = sym (ap answer_in is)
 pub refused_studio : (s : StudioState) (made : Result Effect ℕ) (status : ℕ) →
     made ≡ Err status → s ≡ studio_in s made
 refused_studio s made status is = sym (ap (studio_in s) is)
+
+-- the event of a scene that is made
+pub made_tells : (s : StudioState) (notes : Notes) (name : List ℕ) (twin : Twin)
+    (twins : List Twin) → scene_cause s.graph name (scene_created name s.graph) ≡ None →
+    twins ≡ twin ∷ [] → IsTwin twin → twin.queued ≡ SceneCreated name s.graph.next_serial →
+    s.graph.next_serial < 2 ^ 48 → TellsEffect twins (scene_made s notes name)
+made_tells s notes name twin twins cause one pair same short =
+    subst (TellsEffect twins) (sym (made_ok s notes name cause))
+    (tells_one twins twin (SceneCreated name s.graph.next_serial)
+    (settling_events s.graph (scene_added s name).graph) one pair same short
+    (settling_unheard s.graph (scene_added s name).graph))
+
+-- and none of one that is refused
+pub refused_tells : (made : Result Effect ℕ) (status : ℕ) (twins : List Twin) →
+    made ≡ Err status → twins ≡ [] → TellsEffect twins made
+refused_tells made status twins is none = subst (TellsEffect twins) (sym is) none

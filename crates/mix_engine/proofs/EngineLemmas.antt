@@ -1,6 +1,6 @@
 -- What an engine does, over its parts.
 use Rattle.std.proofs.Common.{◌≡◌, ℕ, ◌+◌, ◌<◌, ◌≤◌, Bool, true, false, cond, ◌&&◌, IsTrue}
-use Rattle.std.proofs.Common.{List, [], ◌∷◌, ◌++◌, length, All, Some, None}
+use Rattle.std.proofs.Common.{List, [], ◌∷◌, ◌++◌, map, length, Some, None}
 use Rattle.std.proofs.Common.{refl, sym, ap, ◌∙◌, subst, arith}
 use Rattle.std.specs.Prelude.{nat_lt, nat_le}
 use Rattle.std.proofs.lemmas.Bool.{ltb-true, leb-true}
@@ -9,11 +9,12 @@ use Rattle.mix_model.specs.declared.action.Action.{Action}
 use Rattle.mix_model.specs.declared.action.Entry.{Entry}
 use Rattle.mix_model.specs.declared.reply.Answer.{Answer}
 use Rattle.mix_engine.specs.declared.spoken.Spoken.{Spoken}
+use Rattle.mix_engine.specs.Listeners.{Listener, conn_of}
 use Rattle.mix_engine.specs.Mixer.{Mixer}
-use Rattle.mix_engine.specs.Mixings.{IsQuietConn}
+use Rattle.mix_engine.specs.Mixings.{Mixed, mixed_after, mixed_after_any}
 use Rattle.mix_engine.specs.Built.{is_built}
-use Rattle.mix_engine.specs.Step.{outcome, after}
-use Rattle.mix_engine.specs.Spoken.{comes_to, after_any, Speaks, Says}
+use Rattle.mix_engine.specs.Step.{outcome}
+use Rattle.mix_engine.specs.Spoken.{comes_to, Speaks, Says}
 use Rattle.mix_engine.specs.Answers.{state_after, trace, actions_of, answer_to}
 use Rattle.mix_engine.specs.Answers.{Agrees, Replies, due_after}
 use Rattle.mix_engine.specs.Engines.{EngineModel, IsLineOf, line_bytes, text_bytes}
@@ -24,19 +25,19 @@ use Rattle.mix_engine.proofs.Replays.{replays_more}
 use Rattle.mix_engine.proofs.Agreements.{agrees}
 
 -- where something is spoken the action is built, and the outcome is spoken
-spoken_says : (s : Mixer) (action : Action) (spoken : Spoken) →
-    Speaks (Some spoken) (comes_to s action) →
-    (is_built s action ≡ true) × Says spoken (outcome s action)
-spoken_says s action spoken = elim (is_built s action)
-    as (λ b. Speaks (Some spoken) (cond b (Some (outcome s action)) None)
-    → (b ≡ true) × Says spoken (outcome s action))
+spoken_says : (s : Mixer) (ls : List Listener) (action : Action) (spoken : Spoken) →
+    Speaks ls (Some spoken) (comes_to s action) →
+    (is_built s action ≡ true) × Says ls spoken (outcome s action)
+spoken_says s ls action spoken = elim (is_built s action)
+    as (λ b. Speaks ls (Some spoken) (cond b (Some (outcome s action)) None)
+    → (b ≡ true) × Says ls spoken (outcome s action))
     [ true ↦ λ says. (refl, says) | false ↦ λ no. absurd no ]
 
 -- and the outcome is what was left
-left_built : (s t : Mixer) (action : Action) → is_built s action ≡ true →
-    t ≡ after_any s (comes_to s action) → t ≡ after s (outcome s action)
-left_built s t action built left =
-    left ∙ ap (λ b. after_any s (cond b (Some (outcome s action)) None)) built
+left_built : (m n : Mixed) (action : Action) → is_built m.mixer action ≡ true →
+    n ≡ mixed_after_any m (comes_to m.mixer action) → n ≡ mixed_after m (outcome m.mixer action)
+left_built m n action built left =
+    left ∙ ap (λ b. mixed_after_any m (cond b (Some (outcome m.mixer action)) None)) built
 
 both : (a b : Bool) → (a && b) ≡ true → (a ≡ true) × (b ≡ true)
 both true b is = (refl, is)
@@ -61,19 +62,21 @@ room_fits e action line room limits counted =
     (same, omega arith, omega arith)
 
 -- one entry more keeps what ties an engine to its journal
-pub engine_longer : (e : EngineModel) (old new : Mixer) (longer : List Entry) (entry : Entry)
+pub engine_longer : (e : EngineModel) (old new : Mixed) (longer : List Entry) (entry : Entry)
     (spoken : Spoken) (count line : ℕ) → Replayed e.start e.journal old count →
-    IsTrue (are_limits e.limits) → Speaks (Some spoken) (comes_to old entry.action) →
-    new ≡ after_any old (comes_to old entry.action) → All IsQuietConn old.conns →
-    new.next_conn ≤ old.next_conn + 1 →
-    new.studio.graph.next_serial ≤ old.studio.graph.next_serial + 1 →
+    IsTrue (are_limits e.limits) →
+    Speaks old.listeners (Some spoken) (comes_to old.mixer entry.action) →
+    new ≡ mixed_after_any old (comes_to old.mixer entry.action) →
+    old.mixer.conns ≡ map conn_of old.listeners →
+    new.mixer.next_conn ≤ old.mixer.next_conn + 1 →
+    new.mixer.studio.graph.next_serial ≤ old.mixer.studio.graph.next_serial + 1 →
     has_room e entry.action ≡ true → IsLineOf line entry.action →
     longer ≡ e.journal ++ entry ∷ [] →
     Replayed e.start longer new (count + line) × IsTrue (are_limits e.limits)
     × (length longer ≤ e.limits.turns) × (count + line ≤ e.limits.bytes)
-engine_longer e old new longer entry spoken count line replayed limits speaks left quiet conns
+engine_longer e old new longer entry spoken count line replayed limits speaks left here conns
     serials room counted is =
-    let says = spoken_says old entry.action spoken speaks in
+    let says = spoken_says old.mixer old.listeners entry.action spoken speaks in
     let fits = room_fits e entry.action line room limits counted in
     let more : length (e.journal ++ entry ∷ []) ≡ length e.journal + 1
     = length-append e.journal (entry ∷ []) in
@@ -81,28 +84,30 @@ engine_longer e old new longer entry spoken count line replayed limits speaks le
     let bytes : count ≡ text_bytes e.journal = replayed.bytes in (
       subst (λ l. Replayed e.start l new (count + line)) (sym is)
           (replays_more e.start old new e.journal entry count line replayed
-          (left_built old new entry.action says.0 left) quiet fits.0 conns serials),
+          (left_built old new entry.action says.0 left) here fits.0 conns serials),
       limits,
       omega arith,
       omega arith,
     )
 
 -- what is answered after one entry more agrees with it
-pub answer_agrees : (e : EngineModel) (a : Answer) (old : Mixer) (longer : List Entry)
+pub answer_agrees : (e : EngineModel) (a : Answer) (old : Mixed) (longer : List Entry)
     (entry : Entry) (spoken : Spoken) (count : ℕ) → Replayed e.start e.journal old count →
-    Speaks (Some spoken) (comes_to old entry.action) → All IsQuietConn old.conns →
-    longer ≡ e.journal ++ entry ∷ [] →
+    Speaks old.listeners (Some spoken) (comes_to old.mixer entry.action) →
+    old.mixer.conns ≡ map conn_of old.listeners → longer ≡ e.journal ++ entry ∷ [] →
     Replies spoken.own spoken.said.items (due_after spoken.own (state_after e.start longer))
     a.reply →
     a.stopping ≡ (state_after e.start longer).notes.stop →
     a.dying ≡ length (state_after e.start longer).studio.graph.dying →
     Agrees a (answer_to e.start e.journal entry.action)
-answer_agrees e a old longer entry spoken count replayed speaks quiet is reply stopping dying =
+answer_agrees e a old longer entry spoken count replayed speaks here is reply stopping dying =
     let s : Mixer = state_after e.start e.journal in
-    let says : Says spoken (outcome s entry.action)
-    = (spoken_says s entry.action spoken
-    (subst (λ t. Speaks (Some spoken) (comes_to t entry.action)) replayed.state speaks)).1 in
-    agrees a spoken.own spoken.said.items s (state_after e.start longer)
-    (trace e.start (actions_of e.journal)) (outcome s entry.action) replayed.quiet
-    (subst (λ (t : Mixer). All IsQuietConn t.conns) replayed.state quiet) says.own says.said
+    let says : Says old.listeners spoken (outcome s entry.action)
+    = (spoken_says s old.listeners entry.action spoken
+    (subst (λ t. Speaks old.listeners (Some spoken) (comes_to t entry.action)) replayed.state
+    speaks)).1 in
+    agrees a spoken.own spoken.said.items s (state_after e.start longer) old.listeners
+    (trace e.start (actions_of e.journal)) (outcome s entry.action)
+    (subst (λ (t : Mixer). t.conns ≡ map conn_of old.listeners) replayed.state here)
+    replayed.queues says.own says.said
     (ap (state_after e.start) is ∙ state_longer e.start e.journal entry) reply stopping dying

@@ -1,5 +1,5 @@
 -- What was heard can be said again: at once only Identified is said, and a request has an id.
-use Rattle.std.proofs.Common.{◌≡◌, ℕ, List, length, IsTrue, is_some, refl, codes, not}
+use Rattle.std.proofs.Common.{ℕ, List, length, IsTrue, is_some, refl, codes, not}
 use Rattle.std.proofs.Common.{nat_lt, Option, Result, Ok, Err}
 use Rattle.mix_base.specs.Json.{Object}
 use Rattle.mix_json.specs.Fields.{◌>>=◌, refused_if, or_status}
@@ -10,7 +10,7 @@ use Rattle.mix_session.specs.declared.op.Op.{Op}
 use Rattle.mix_session.specs.declared.op.Op.TheVariants.{Identify, Reidentify}
 use Rattle.mix_session.specs.declared.op.Op.TheVariants.{Request, RequestBatch}
 use Rattle.mix_session.specs.declared.heard.Heard.{Heard}
-use Rattle.mix_session.specs.declared.heard.Heard.TheVariants.{Say, Ask, Batch, Close}
+use Rattle.mix_session.specs.declared.heard.Heard.TheVariants.{Ask}
 use Rattle.mix_session.specs.Hear.{hear, heard_by, text_heard, of_kind, expected_of}
 use Rattle.mix_session.specs.Hear.{identify_of, reidentify_of, request_of, batch_of, events_of}
 use Rattle.mix_session.specs.Hear.{logs_in, is_version, message_of, most_bytes}

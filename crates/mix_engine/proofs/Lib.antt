@@ -1,9 +1,17 @@
 -- look-ups in lists under a map
 pub mod Lookups
--- connections that want no event
-pub mod Quiet
+-- sessions and lanes side by side
+pub mod AudienceLemmas
+-- what an audience keeps and shows
+pub mod Audiences
+-- events that are told one after another
+pub mod InOrder
 -- states and traces after one entry more
 pub mod Traces
+-- pairs of events, and the events that they are
+pub mod TellingLemmas
+-- what comes of a custom event
+pub mod CustomEventLemmas
 -- entries of scenes
 pub mod SceneLemmas
 -- causes as statuses
@@ -18,12 +26,16 @@ pub mod RequestLemmas
 pub mod HeardLemmas
 -- a request and its line in the table
 pub mod LineLemmas
+-- the open connections with what waits for each
+pub mod ListenerLemmas
 -- actions of connections over the parts that the code keeps
 pub mod MixingLemmas
 -- opening a collection
 pub mod OpeningLemmas
--- entries of which nobody takes an event
-pub mod Untaken
+-- what waits for a connection is its queue
+pub mod QueueLemmas
+-- who comes, goes, or is identified is the one whose entry it is
+pub mod ActorLemmas
 -- what ties an engine to its journal, after one entry more
 pub mod Replays
 -- what an engine does, over its parts

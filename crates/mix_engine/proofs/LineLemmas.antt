@@ -1,10 +1,11 @@
 -- What is done about a request is what its line in the table says.
-use Rattle.std.proofs.Common.{◌≡◌, ◌∙◌, ℕ, List, [], sym, ap}
+use Rattle.std.proofs.Common.{◌≡◌, ◌∙◌, ℕ, List, [], sym, ap, subst}
 use Rattle.std.proofs.Common.{Option, Some, None, Result}
 use Rattle.std.specs.Prelude.{unwrap_or}
 use Rattle.mix_base.specs.declared.json.Json.{Json}
 use Rattle.mix_model.specs.declared.ask.Ask.{Ask}
 use Rattle.mix_model.specs.declared.ask.Done.{Done}
+use Rattle.mix_model.specs.declared.event.Twin.{Twin}
 use Rattle.mix_model.specs.declared.notes.Notes.{Notes}
 use Rattle.mix_model.specs.State.{StudioState}
 use Rattle.mix_engine.specs.declared.request_type.RequestType.{RequestType}
@@ -12,6 +13,8 @@ use Rattle.mix_engine.specs.Effects.{Effect}
 use Rattle.mix_engine.specs.Requests.{requested, requested_or, effect_of, type_of, done_with}
 use Rattle.mix_engine.specs.Requests.{answer_in, studio_in}
 use Rattle.mix_engine.specs.Requesting.{done_in, studio_after}
+use Rattle.mix_engine.specs.Telling.{TellsEffect, TellsRequested}
+use Rattle.mix_engine.proofs.TellingLemmas.{effect_tells}
 
 -- a request whose kind was read as this text, which is of this type
 module _ (s : StudioState) (notes : Notes) (ask : Ask) (text kind : List ℕ) (type : RequestType)
@@ -45,3 +48,14 @@ module _ (s : StudioState) (notes : Notes) (ask : Ask) (text kind : List ℕ) (t
   pub nothing_left : effect_of s notes ask.body type ≡ None →
       s ≡ studio_after s (requested s notes ask)
   nothing_left is = sym (ap (studio_after s) (line_of None is))
+
+  -- what is told of a line is told of the request
+  pub told : (twins : List Twin) (effect : Result Effect ℕ) →
+      effect_of s notes ask.body type ≡ Some effect → TellsEffect twins effect →
+      TellsRequested twins (requested s notes ask)
+  told twins effect is tells = subst (TellsRequested twins) (sym (line_of (Some effect) is))
+      (effect_tells s notes ask twins effect tells)
+
+  pub nothing_told : (twins : List Twin) → effect_of s notes ask.body type ≡ None →
+      twins ≡ [] → TellsRequested twins (requested s notes ask)
+  nothing_told twins is none = subst (TellsRequested twins) (sym (line_of None is)) none

@@ -1,17 +1,23 @@
 -- What the actions of connections come to, over the parts that the code keeps.
-use Rattle.std.proofs.Common.{◌≡◌, ℕ, ◌+◌, ◌<◌, ◌≤◌, Bool, true, false, cond, List, [], ◌∷◌, ◌++◌, length}
-use Rattle.std.proofs.Common.{map, filter, find, All, Option, Some, None, refl, sym, ap, ◌∙◌, arith, ◌==◌}
-use Rattle.std.proofs.Common.{not, option_map, subst, IfSome, IsTrue, is_some, get_or}
-use Rattle.std.specs.Prelude.{nat_le, nat_lt}
-use Rattle.std.proofs.lemmas.List.{map-append, length-map}
-use Rattle.std.proofs.lemmas.Bool.{lt-ltb}
+use Rattle.std.proofs.Common.{◌≡◌, ℕ, ◌+◌, ◌≤◌, Bool, true, false, cond, List, [], ◌∷◌}
+use Rattle.std.proofs.Common.{◌++◌, length}
+use Rattle.std.proofs.Common.{map, filter, All, Option, Some, None, refl, sym, ap, ◌∙◌}
+use Rattle.std.proofs.Common.{option_map, subst, IsTrue, is_some, IfOk, Result, OnOk}
+use Rattle.std.specs.Prelude.{nat_lt}
 use Rattle.std.specs.Option.{option_map_or}
-use Rattle.std.proofs.lemmas.List.Elements.{All-head, All-tail, All-map, All-push, All-nil}
-use Rattle.std.proofs.lemmas.List.Elements.{All-filter}
+use Rattle.std.proofs.lemmas.List.{append-nil, length-map, map-append}
+use Rattle.std.proofs.lemmas.List.Elements.{All-append, All-map, All-push}
+use Rattle.mix_events.specs.Sayable.{IsSayable, IsSayableEvent}
 use Rattle.mix_model.specs.declared.action.Action.TheVariants.{Arrive, Hear, Poll, Leave}
+use Rattle.mix_model.specs.declared.ask.Ask.{Ask}
+use Rattle.mix_model.specs.declared.ask.Done.{Done}
 use Rattle.mix_model.specs.declared.event.Event.{Event}
+use Rattle.mix_model.specs.declared.event.Twin.{Twin}
 use Rattle.mix_model.specs.declared.message.Message.{Message}
+use Rattle.mix_model.specs.declared.notes.Notes.{Notes}
 use Rattle.mix_model.specs.declared.said.Said.{Said}
+use Rattle.mix_model.specs.declared.said.Said.TheVariants.{Response}
+use Rattle.mix_model.specs.declared.said.Said.TheVariants.{Event as OfEvent}
 use Rattle.mix_model.specs.Opening.{no_notes}
 use Rattle.mix_model.specs.State.{GraphState, StudioState}
 use Rattle.mix_session.specs.declared.heard.Heard.{Heard}
@@ -19,369 +25,510 @@ use Rattle.mix_session.specs.declared.heard.Heard.TheVariants.{Say}
 use Rattle.mix_session.specs.declared.heard.Heard.TheVariants.{Ask as AskOne}
 use Rattle.mix_session.specs.Hear.{hear}
 use Rattle.mix_session.specs.SessionState.{hello}
-use Rattle.mix_engine.specs.declared.member.Member.{Member}
-use Rattle.mix_engine.specs.declared.own.Own.TheVariants.{Gone, Told}
-use Rattle.mix_engine.specs.declared.still.Still.{Still}
-use Rattle.mix_engine.specs.Connections.{conn_at, is_conn, attending, new_conn, with_mask}
 use Rattle.mix_engine.specs.declared.attendance.Attendance.TheVariants as att
-use Rattle.mix_engine.specs.Members.{conn_of, IsMember, WantsNothing, is_member, is_other, heard_by_member}
-use Rattle.mix_engine.specs.Mixer.{Mixer, Connection}
-use Rattle.mix_engine.specs.Mixings.{mixer_of, comes_of, IsQuietConn, IsMixing, IsIdle, IsPlain}
-use Rattle.mix_engine.specs.Outcomes.{Outcome, only, joins, leaves, identifies}
+use Rattle.mix_engine.specs.declared.own.Own.{Own}
+use Rattle.mix_engine.specs.declared.own.Own.TheVariants.{Full, Gone, Told}
+use Rattle.mix_engine.specs.declared.spoken.Spoken.{Spoken}
+use Rattle.mix_engine.specs.declared.still.Still.{Still}
 use Rattle.mix_engine.specs.Answers.{first_due}
+use Rattle.mix_engine.specs.Built.{is_deaf}
+use Rattle.mix_engine.specs.Connections.{conn_at}
+use Rattle.mix_engine.specs.Listeners.{Listener, conn_of, listener_at, new_listener, with_mask}
+use Rattle.mix_engine.specs.Listeners.{is_other, actor_of, queued, ended, listening}
+use Rattle.mix_engine.specs.Listeners.{waiting_of, waiting_for, taken_by, told_to}
+use Rattle.mix_engine.specs.Members.{Gathered}
+use Rattle.mix_engine.specs.Mixer.{Mixer, Connection}
+use Rattle.mix_engine.specs.Mixings.{Mixed, mixer_of, mixed_of, mixed_after}
+use Rattle.mix_engine.specs.Mixings.{mixed_after_any, comes_of}
+use Rattle.mix_engine.specs.Mixings.{IsListener, IsMixing, IsIdle, IsPlain}
+use Rattle.mix_engine.specs.Outcomes.{Outcome, only, joins, closes, leaves, identifies}
 use Rattle.mix_engine.specs.Requests.{Requested, requested, answers}
 use Rattle.mix_engine.specs.Requesting.{done_in, studio_after}
-use Rattle.mix_engine.proofs.HeardLemmas.{hears_plainly}
-use Rattle.mix_engine.proofs.RequestLemmas.{notes_kept, done_sayable}
-use Rattle.mix_events.specs.Sayable.{IsSayable}
-use Rattle.mix_model.specs.declared.ask.Ask.{Ask}
-use Rattle.mix_model.specs.declared.ask.Done.{Done}
-use Rattle.mix_model.specs.declared.notes.Notes.{Notes}
-use Rattle.mix_model.specs.declared.said.Said.TheVariants.{Response}
-use Rattle.mix_engine.specs.Spoken.{comes_to, after_any, Speaks}
-use Rattle.mix_engine.specs.declared.own.Own.{Own}
-use Rattle.mix_engine.specs.declared.spoken.Spoken.{Spoken}
-use Rattle.mix_engine.specs.Step.{after, rested}
+use Rattle.mix_engine.specs.Scenery.{HasScenes}
+use Rattle.mix_engine.specs.Spoken.{comes_to, Says, Speaks}
 use Rattle.mix_engine.specs.Stills.{studio_of}
-use Rattle.mix_engine.proofs.Lookups.{find_under, filter_under, map_square}
-use Rattle.mix_engine.proofs.Quiet.{all_rest}
+use Rattle.mix_engine.specs.Telling.{Tells, TellsRequested, queued_in, most_events}
+use Rattle.mix_engine.proofs.HeardLemmas.{hears_plainly}
+use Rattle.mix_engine.proofs.ListenerLemmas.{found_conn, listens, queued_nothing, told_plainly}
+use Rattle.mix_engine.proofs.ListenerLemmas.{queued_heard, taken_heard}
+use Rattle.mix_engine.proofs.ListenerLemmas.{taken_by_sayable, waiting_sayable, unknown}
+use Rattle.mix_engine.proofs.ListenerLemmas.{ended_all, queued_all, masked_all}
+use Rattle.mix_engine.proofs.ListenerLemmas.{others_all, joined_all}
+use Rattle.mix_engine.proofs.RequestLemmas.{notes_kept, done_sayable}
 
--- the open connection of a number stands for the member of that number
-pub found_conn : (conn : ℕ) (members : List Member) →
-    conn_at conn (map conn_of members) ≡ option_map conn_of (find (is_member conn) members)
-found_conn conn members = find_under (is_conn conn) (is_member conn) conn_of (λ m. refl) members
+-- ---- who is open
 
-found_some : (conn : ℕ) (members : List Member) (m : Member) →
-    find (is_member conn) members ≡ Some m → conn_at conn (map conn_of members) ≡ Some (conn_of m)
-found_some conn members m found =
-    found_conn conn members ∙ ap (option_map conn_of) found
+-- the open connection of a number, and whether it is cut
+pub record IsOpen (conns : List Connection) (conn : ℕ) (cut : Bool) : Type 0 where
+  pub one : Connection
+  pub found : conn_at conn conns ≡ Some one
+  pub cut_is : one.cut ≡ cut
 
-found_none : (conn : ℕ) (members : List Member) →
-    find (is_member conn) members ≡ None → conn_at conn (map conn_of members) ≡ None
-found_none conn members found =
-    found_conn conn members ∙ ap (option_map conn_of) found
+-- ---- what an action comes to
 
--- what is found has what all have
-pub found_has : {X : Type 0} (P : X → Type 0) (p : X → Bool) (xs : List X) (x : X) → All P xs →
-    find p xs ≡ Some x → P x
-found_has P p [] x all found = cc
-found_has P p (y ∷ xs) x all found = (elim (p y)
-    as (λ b. cond b (Some y) (find p xs) ≡ Some x → P x) [
-      | true ↦ λ is. (let same : y ≡ x = cc in subst P same (All-head P y xs all))
-      | false ↦ λ is. found_has P p xs x (All-tail P y xs all) is
-    ]) found
+-- a step that speaks as the outcome does, and leaves what it leaves
+pub speaks : (ls : List Listener) (spoken : Spoken) (x : Option Outcome) (o : Outcome) →
+    x ≡ Some o → Says ls spoken o → Speaks ls (Some spoken) x
+speaks ls spoken x o is says = subst (Speaks ls (Some spoken)) (sym is) says
 
--- one action more leaves the parts that it says, and nobody has anything that waits
-pub leaves_parts : (still still' : Still) (g g' : GraphState) (secret : Option (List ℕ × List ℕ))
-    (members members' : List Member) (n : ℕ) (o : Outcome) → o.studio ≡ studio_of still' g' →
-    o.notes ≡ no_notes → attending o.attendance (map conn_of members) ≡ map conn_of members' →
-    All (IsMember secret) members' →
-    mixer_of still' g' secret members' o.next_conn ≡ after (mixer_of still g secret members n) o
-leaves_parts still still' g g' secret members members' n o studio notes conns quiet =
-    rw (studio, notes, conns, all_rest secret o.own o.events members' quiet) refl
+pub leaves_after : (s t : Mixed) (x : Option Outcome) (o : Outcome) → x ≡ Some o →
+    t ≡ mixed_after s o → t ≡ mixed_after_any s x
+leaves_after s t x o is left = left ∙ sym (ap (mixed_after_any s) is)
 
--- a reply that changes nothing leaves all as it is
-pub stays : (still : Still) (g : GraphState) (secret : Option (List ℕ × List ℕ))
-    (members : List Member) (n : ℕ) (own : Own) (said : List Said) → All (IsMember secret) members →
-    mixer_of still g secret members n
-    ≡ after (mixer_of still g secret members n) (only (mixer_of still g secret members n) own said)
-stays still g secret members n own said quiet = leaves_parts still still g g secret members members n
-    (only (mixer_of still g secret members n) own said) refl refl refl quiet
+-- the same of a part of it that may fail
+pub speaks_as : {E : Type 0} (ls : List Listener) (r : Result (Option Spoken) E)
+    (x y : Option Outcome) → x ≡ y → IfOk r (λ spoken. Speaks ls spoken y) →
+    IfOk r (λ spoken. Speaks ls spoken x)
+speaks_as ls r x y is says = subst (λ z. IfOk r (λ spoken. Speaks ls spoken z)) (sym is) says
 
--- who closes is no longer there
-pub gone : (conn : ℕ) (members : List Member) →
-    attending (att.Leaves conn) (map conn_of members) ≡ map conn_of (filter (is_other conn) members)
-gone conn members = sym (filter_under (λ c. not (is_conn conn c)) (is_other conn) conn_of (λ m. refl) members)
+pub leaves_as : {E : Type 0} (s t : Mixed) (r : Result (Option Spoken) E) (x y : Option Outcome) →
+    x ≡ y → OnOk r (t ≡ mixed_after_any s y) → OnOk r (t ≡ mixed_after_any s x)
+leaves_as s t r x y is left = subst (λ z. OnOk r (t ≡ mixed_after_any s z)) (sym is) left
 
--- who comes is there
-pub come : (conn : ℕ) (challenge : List ℕ) (members : List Member) (m : Member) →
-    conn_of m ≡ new_conn conn challenge →
-    attending (att.Joins conn challenge) (map conn_of members) ≡ map conn_of (members ++ m ∷ [])
-come conn challenge members m is = sym (map-append conn_of members (m ∷ [])
-    ∙ ap (λ c. map conn_of members ++ c ∷ []) is)
-
-entered_one : (conn mask : ℕ) (said : Said) (m : Member) →
-    with_mask conn mask (conn_of m) ≡ conn_of (heard_by_member conn (Say said mask) m)
-entered_one conn mask said m = elim (m.conn == conn)
-    as (λ b. cond b (record (conn_of m) { mask = Some mask }) (conn_of m)
-    ≡ conn_of (cond b (record m { session = record m.session { mask = Some mask } }) m))
-    [ true ↦ refl | false ↦ refl ]
-
--- who is identified has the mask
-pub entered : (conn mask : ℕ) (said : Said) (members : List Member) →
-    attending (att.Identifies conn mask) (map conn_of members)
-    ≡ map conn_of (map (heard_by_member conn (Say said mask)) members)
-entered conn mask said members = map_square (with_mask conn mask) conn_of conn_of
-    (heard_by_member conn (Say said mask)) (entered_one conn mask said) members
-
--- everybody that stands for a member wants no event
-pub quiet_conns : (secret : Option (List ℕ × List ℕ)) (members : List Member) →
-    All (IsMember secret) members → All IsQuietConn (map conn_of members)
-quiet_conns secret members all =
-    All-map IsQuietConn conn_of members (λ k d lt. (all k d lt).quiet)
-
--- a message of an open connection comes to what was heard
-pub hear_found : (s : Mixer) (conn : ℕ) (message : Message) (c : Connection) (heard : Heard) →
-    conn_at conn s.conns ≡ Some c → c.cut ≡ false →
-    heard ≡ hear s.secret c.challenge c.mask message →
-    comes_to s (Hear conn message) ≡ comes_of s conn heard
-hear_found s conn message c heard found uncut is = rw (found, uncut, is) refl
-
--- and one of another comes to nothing that is built
-pub hear_lost : (s : Mixer) (conn : ℕ) (message : Message) → conn_at conn s.conns ≡ None →
-    comes_to s (Hear conn message) ≡ None
-hear_lost s conn message found = rw found refl
-
--- a connection that comes is taken where there is room
+-- a connection comes where there is room for it
 pub arrives : (s : Mixer) (challenge : List ℕ) → nat_lt (length s.conns) 64 ≡ true →
     comes_to s (Arrive challenge) ≡ Some (joins s challenge (hello s.secret challenge))
 arrives s challenge room = rw room refl
 
 pub arrives_full : (s : Mixer) (challenge : List ℕ) → nat_lt (length s.conns) 64 ≡ false →
-    comes_to s (Arrive challenge) ≡ None
+    comes_to s (Arrive challenge) ≡ Some (only s Full [])
 arrives_full s challenge full = rw full refl
 
--- a step that speaks as the outcome does
-pub speaks : (spoken : Spoken) (x : Option Outcome) (o : Outcome) → x ≡ Some o →
-    spoken.own ≡ o.own → spoken.said.items ≡ o.said → Speaks (Some spoken) x
-speaks spoken x o is own said = subst (Speaks (Some spoken)) (sym is)
-    (record { own = own; said = said })
-
-pub speaks_nothing : (x : Option Outcome) → x ≡ None → Speaks None x
-speaks_nothing x is = subst (Speaks None) (sym is) tt
-
--- and leaves what the outcome leaves
-pub leaves_after : (s t : Mixer) (x : Option Outcome) (o : Outcome) → x ≡ Some o →
-    t ≡ after s o → t ≡ after_any s x
-leaves_after s t x o is left = left ∙ sym (ap (after_any s) is)
-
-pub leaves_all : (s : Mixer) (x : Option Outcome) → x ≡ None → s ≡ after_any s x
-leaves_all s x is = sym (ap (after_any s) is)
-
--- a poll and a leave of a connection that isn't open, and of one that is
+-- an action of a connection that isn't open
 pub polls_gone : (s : Mixer) (conn : ℕ) → conn_at conn s.conns ≡ None →
     comes_to s (Poll conn) ≡ Some (only s (Gone conn) [])
 polls_gone s conn found = rw found refl
-
-pub polls : (s : Mixer) (conn : ℕ) (c : Connection) → conn_at conn s.conns ≡ Some c →
-    c.cut ≡ false → comes_to s (Poll conn) ≡ Some (only s (Told conn) [])
-polls s conn c found uncut = rw (found, uncut) refl
 
 pub goes_gone : (s : Mixer) (conn : ℕ) → conn_at conn s.conns ≡ None →
     comes_to s (Leave conn) ≡ Some (only s (Gone conn) [])
 goes_gone s conn found = rw found refl
 
-pub goes : (s : Mixer) (conn : ℕ) (c : Connection) → conn_at conn s.conns ≡ Some c →
-    c.cut ≡ false → comes_to s (Leave conn) ≡ Some (leaves s conn)
-goes s conn c found uncut = rw (found, uncut) refl
+pub hears_gone : (s : Mixer) (conn : ℕ) (message : Message) → conn_at conn s.conns ≡ None →
+    comes_to s (Hear conn message) ≡ Some (only s (Gone conn) [])
+hears_gone s conn message found = rw found refl
 
--- who is left are members still
-pub others_mixing : (still : Still) (g : GraphState) (secret : Option (List ℕ × List ℕ))
-    (members members' : List Member) (conn : ℕ) → IsMixing still g secret members →
-    members' ≡ filter (is_other conn) members → IsMixing still g secret members'
-others_mixing still g secret members members' conn mixing is =
-    subst (IsMixing still g secret) (sym is) (record {
-      members_are = All-filter (is_other conn) (IsMember secret) members mixing.members_are;
-      scenes = mixing.scenes;
-      program = mixing.program;
-    })
+-- of one that is cut
+pub polls_cut : (s : Mixer) (conn : ℕ) → IsOpen s.conns conn true →
+    comes_to s (Poll conn) ≡ Some (closes s conn 4011)
+polls_cut s conn is = rw (is.found, is.cut_is) refl
 
--- what is left where a connection goes, or is closed
-pub others_state : (still : Still) (g : GraphState) (secret : Option (List ℕ × List ℕ))
-    (members members' : List Member) (n conn : ℕ) (own : Own) →
-    IsMixing still g secret members → members' ≡ filter (is_other conn) members →
-    mixer_of still g secret members' n ≡ after (mixer_of still g secret members n)
-    (record (only (mixer_of still g secret members n) own []) { attendance = att.Leaves conn })
-others_state still g secret members members' n conn own mixing is =
-    leaves_parts still still g g secret members members' n
-    (record (only (mixer_of still g secret members n) own []) { attendance = att.Leaves conn })
-    refl refl (gone conn members ∙ ap (map conn_of) (sym is))
-    (others_mixing still g secret members members' conn mixing is).members_are
+pub goes_cut : (s : Mixer) (conn : ℕ) → IsOpen s.conns conn true →
+    comes_to s (Leave conn) ≡ Some (closes s conn 4011)
+goes_cut s conn is = rw (is.found, is.cut_is) refl
 
--- the same, seen from the whole
-pub unchanged : (still : Still) (g : GraphState) (secret : Option (List ℕ × List ℕ))
-    (members : List Member) (n : ℕ) (s : Mixer) (own : Own) (said : List Said) →
-    mixer_of still g secret members n ≡ s → IsMixing still g secret members →
-    s ≡ after s (only s own said)
-unchanged still g secret members n s own said view mixing =
-    subst (λ t. t ≡ after t (only t own said)) view
-    (stays still g secret members n own said mixing.members_are)
+pub hears_cut : (s : Mixer) (conn : ℕ) (message : Message) → IsOpen s.conns conn true →
+    comes_to s (Hear conn message) ≡ Some (closes s conn 4011)
+hears_cut s conn message is = rw (is.found, is.cut_is) refl
 
-pub others_left : (still : Still) (g : GraphState) (secret : Option (List ℕ × List ℕ))
-    (members members' : List Member) (n conn : ℕ) (own : Own) (s : Mixer) →
-    mixer_of still g secret members n ≡ s → IsMixing still g secret members →
-    members' ≡ filter (is_other conn) members → mixer_of still g secret members' n
-    ≡ after s (record (only s own []) { attendance = att.Leaves conn })
-others_left still g secret members members' n conn own s view mixing is = subst
-    (λ t. mixer_of still g secret members' n
-    ≡ after t (record (only t own []) { attendance = att.Leaves conn })) view
-    (others_state still g secret members members' n conn own mixing is)
+-- and of any other
+pub polls : (s : Mixer) (conn : ℕ) → IsOpen s.conns conn false →
+    comes_to s (Poll conn) ≡ Some (only s (Told conn) [])
+polls s conn is = rw (is.found, is.cut_is) refl
 
--- a member that is found knows the secret
-pub knows_secret : (secret : Option (List ℕ × List ℕ)) (members : List Member) (conn : ℕ)
-    (found : Option Member) → All (IsMember secret) members →
-    found ≡ find (is_member conn) members → IfSome found (λ m. m.session.secret ≡ secret)
-knows_secret secret members conn None all is = tt
-knows_secret secret members conn (Some m) all is =
-    (found_has (IsMember secret) (is_member conn) members m all (sym is)).knows
+pub goes : (s : Mixer) (conn : ℕ) → IsOpen s.conns conn false →
+    comes_to s (Leave conn) ≡ Some (leaves s conn)
+goes s conn is = rw (is.found, is.cut_is) refl
 
--- the open connection that is found, seen from the whole
-pub found_view : (still : Still) (g : GraphState) (secret : Option (List ℕ × List ℕ))
-    (members : List Member) (n : ℕ) (s : Mixer) (conn : ℕ) (found : Option Member) →
-    mixer_of still g secret members n ≡ s → found ≡ find (is_member conn) members →
-    option_map conn_of found ≡ conn_at conn s.conns
-found_view still g secret members n s conn found view is =
-    ap (option_map conn_of) is ∙ sym (found_conn conn members)
-    ∙ ap (λ (t : Mixer). conn_at conn t.conns) view
+hears : (s : Mixer) (conn : ℕ) (message : Message) (c : Connection) (heard : Heard) →
+    conn_at conn s.conns ≡ Some c → c.cut ≡ false →
+    heard ≡ hear s.secret c.challenge c.mask message →
+    comes_to s (Hear conn message) ≡ comes_of s conn heard
+hears s conn message c heard found uncut is = rw (found, uncut, is) refl
 
-pub knows_view : (still : Still) (g : GraphState) (secret : Option (List ℕ × List ℕ))
-    (members : List Member) (n : ℕ) (s : Mixer) (conn : ℕ) (found : Option Member) →
-    mixer_of still g secret members n ≡ s → IsMixing still g secret members →
-    found ≡ find (is_member conn) members → IfSome found (λ m. m.session.secret ≡ s.secret)
-knows_view still g secret members n s conn found view mixing is =
-    subst (λ (t : Mixer). IfSome found (λ m. m.session.secret ≡ t.secret)) view
-    (knows_secret secret members conn found mixing.members_are is)
-
--- no batch waits for who stands for a member
-idle_one : (clock conn : ℕ) (found : Option Member) →
-    option_map_or (λ (c : Connection). first_due clock c.batches) (option_map conn_of found) false
-    ≡ false
-idle_one clock conn None = refl
-idle_one clock conn (Some m) = refl
-
-pub idle_view : (still : Still) (g : GraphState) (secret : Option (List ℕ × List ℕ))
-    (members : List Member) (n : ℕ) (s : Mixer) → mixer_of still g secret members n ≡ s → IsIdle s
-idle_view still g secret members n s view = subst IsIdle view (λ conn.
-    ap (λ o. option_map_or (λ (c : Connection). first_due g.clock c.batches) o false)
-    (found_conn conn members)
-    ∙ idle_one g.clock conn (find (is_member conn) members))
-
-pub quiet_view : (still : Still) (g : GraphState) (secret : Option (List ℕ × List ℕ))
-    (members : List Member) (n : ℕ) (s : Mixer) → mixer_of still g secret members n ≡ s →
-    IsMixing still g secret members → All IsQuietConn s.conns
-quiet_view still g secret members n s view mixing =
-    subst (λ (t : Mixer). All IsQuietConn t.conns) view
-    (quiet_conns secret members mixing.members_are)
-
-pub stop_view : (still : Still) (g : GraphState) (secret : Option (List ℕ × List ℕ))
-    (members : List Member) (n : ℕ) (s : Mixer) → mixer_of still g secret members n ≡ s →
-    s.notes.stop ≡ false
-stop_view still g secret members n s view = subst (λ (t : Mixer). t.notes.stop ≡ false) view refl
-
--- there is room for one more
-pub has_place : (still : Still) (g : GraphState) (secret : Option (List ℕ × List ℕ))
-    (members : List Member) (n : ℕ) (s : Mixer) → mixer_of still g secret members n ≡ s →
-    length members < 64 → nat_lt (length s.conns) 64 ≡ true
-has_place still g secret members n s view few =
-    subst (λ (t : Mixer). nat_lt (length t.conns) 64 ≡ true) view
-    (let same : length (map conn_of members) ≡ length members = length-map members conn_of in
-    lt-ltb _ _ (omega arith))
-
--- a connection comes, and its session is that of its start
-pub comes_in : (still : Still) (g : GraphState) (secret : Option (List ℕ × List ℕ))
-    (members members' : List Member) (n : ℕ) (s : Mixer) (challenge : List ℕ) (said : Said)
-    (m : Member) → mixer_of still g secret members n ≡ s → IsMixing still g secret members →
-    members' ≡ members ++ m ∷ [] → conn_of m ≡ new_conn n challenge → m.session.secret ≡ secret →
-    mixer_of still g secret members' (n + 1) ≡ after s (joins s challenge said)
-comes_in still g secret members members' n s challenge said m view mixing is new knows = subst
-    (λ t. mixer_of still g secret members' (n + 1) ≡ after t (joins t challenge said)) view
-    (leaves_parts still still g g secret members members' n
-    (joins (mixer_of still g secret members n) challenge said) refl refl
-    (come n challenge members m new ∙ ap (map conn_of) (sym is))
-    (subst (All (IsMember secret)) (sym is) (All-push (IsMember secret) members m
-    mixing.members_are (record {
-      knows = knows;
-      quiet = subst WantsNothing (sym (ap (λ (c : Connection). c.mask) new)) tt;
-    }))))
-
--- who enters a mask without events is a member still
-entered_mixing_one : (secret : Option (List ℕ × List ℕ)) (conn mask : ℕ) (said : Said)
-    (m : Member) → mask ≡ 0 → IsMember secret m →
-    IsMember secret (heard_by_member conn (Say said mask) m)
-entered_mixing_one secret conn mask said m zero is = elim (m.conn == conn)
-    as (λ b. IsMember secret
-    (cond b (record m { session = record m.session { mask = Some mask } }) m))
-    [ true ↦ record { knows = is.knows; quiet = zero } | false ↦ is ]
-
-pub entered_mixing : (still : Still) (g : GraphState) (secret : Option (List ℕ × List ℕ))
-    (members members' : List Member) (conn mask : ℕ) (said : Said) → mask ≡ 0 →
-    IsMixing still g secret members →
-    members' ≡ map (heard_by_member conn (Say said mask)) members →
-    IsMixing still g secret members'
-entered_mixing still g secret members members' conn mask said zero mixing is =
-    subst (IsMixing still g secret) (sym is) (record {
-      members_are = All-map (IsMember secret) (heard_by_member conn (Say said mask)) members
-          (λ k d lt. entered_mixing_one secret conn mask said (get_or members k d) zero
-          (mixing.members_are k d lt));
-      scenes = mixing.scenes;
-      program = mixing.program;
-    })
-
--- a connection is identified
-pub enters : (still : Still) (g : GraphState) (secret : Option (List ℕ × List ℕ))
-    (members members' : List Member) (n : ℕ) (s : Mixer) (conn mask : ℕ) (said text : Said) →
-    mixer_of still g secret members n ≡ s → IsMixing still g secret members → mask ≡ 0 →
-    members' ≡ map (heard_by_member conn (Say said mask)) members →
-    mixer_of still g secret members' n ≡ after_any s (comes_of s conn (Say text mask))
-enters still g secret members members' n s conn mask said text view mixing zero is = subst
-    (λ t. mixer_of still g secret members' n ≡ after_any t (comes_of t conn (Say text mask))) view
-    (leaves_after (mixer_of still g secret members n) (mixer_of still g secret members' n)
-    (comes_of (mixer_of still g secret members n) conn (Say text mask))
-    (identifies (mixer_of still g secret members n) conn mask text) (rw zero refl)
-    (leaves_parts still still g g secret members members' n
-    (identifies (mixer_of still g secret members n) conn mask text) refl refl
-    (entered conn mask said members ∙ ap (map conn_of) (sym is))
-    (entered_mixing still g secret members members' conn mask said zero mixing is).members_are))
-
--- what a request comes to leaves what it says
-asks_case : (still : Still) (g g' : GraphState) (secret : Option (List ℕ × List ℕ))
-    (members : List Member) (n conn : ℕ) (ask : Ask) (done : Done) (asked : Option Requested) →
-    IsMixing still g secret members → requested (studio_of still g) no_notes ask ≡ asked →
-    Some done ≡ done_in asked → studio_of still g' ≡ studio_after (studio_of still g) asked →
-    mixer_of still g' secret members n ≡ after_any (mixer_of still g secret members n)
-    (comes_of (mixer_of still g secret members n) conn (AskOne ask))
-asks_case still g g' secret members n conn ask done None mixing is found left = cc
-asks_case still g g' secret members n conn ask done (Some r) mixing is found left =
-    leaves_after (mixer_of still g secret members n) (mixer_of still g' secret members n)
-    (comes_of (mixer_of still g secret members n) conn (AskOne ask))
-    (answers (mixer_of still g secret members n) conn (Some r)) (rw is refl)
-    (leaves_parts still still g g' secret members members n
-    (answers (mixer_of still g secret members n) conn (Some r)) (sym left)
-    (notes_kept (studio_of still g) no_notes ask r is) refl mixing.members_are)
-
-pub asks : (still : Still) (g g' : GraphState) (secret : Option (List ℕ × List ℕ))
-    (members : List Member) (n : ℕ) (s : Mixer) (conn : ℕ) (ask : Ask) (found : Option Done)
-    (done : Done) → mixer_of still g secret members n ≡ s → IsMixing still g secret members →
-    found ≡ Some done → found ≡ done_in (requested (studio_of still g) no_notes ask) →
-    studio_of still g' ≡ studio_after (studio_of still g)
-    (requested (studio_of still g) no_notes ask) →
-    mixer_of still g' secret members n ≡ after_any s (comes_of s conn (AskOne ask))
-asks still g g' secret members n s conn ask found done view mixing some is left = subst
-    (λ t. mixer_of still g' secret members n ≡ after_any t (comes_of t conn (AskOne ask))) view
-    (asks_case still g g' secret members n conn ask done
-    (requested (studio_of still g) no_notes ask) mixing refl (sym some ∙ is) left)
-
--- and can be said
-sayable_case : (s : StudioState) (notes : Notes) (ask : Ask) (done : Done)
-    (asked : Option Requested) → IsTrue (is_some ask.id) → requested s notes ask ≡ asked →
-    Some done ≡ done_in asked → IsSayable (Response done)
-sayable_case s notes ask done None has_id is found = cc
-sayable_case s notes ask done (Some r) has_id is found =
-    let same : r.done ≡ done = cc in
-    subst (λ d. IsSayable (Response d)) same (done_sayable s notes ask r has_id is)
-
-pub answer_sayable : (s : StudioState) (notes : Notes) (ask : Ask) (found : Option Done)
-    (done : Done) (before items : List Said) → IsTrue (is_some ask.id) → found ≡ Some done →
-    found ≡ done_in (requested s notes ask) → before ≡ [] →
-    items ≡ before ++ Response done ∷ [] → All IsSayable items
-answer_sayable s notes ask found done before items has_id some is empty pushed =
-    subst (All IsSayable) (sym (pushed ∙ ap (λ l. l ++ Response done ∷ []) empty))
-    (All-push IsSayable [] (Response done) (All-nil IsSayable)
-    (sayable_case s notes ask done (requested s notes ask) has_id refl (sym some ∙ is)))
+-- what is said at once is said where the mask is deaf
+pub says : (s : Mixer) (conn : ℕ) (said : Said) (mask : ℕ) → is_deaf mask ≡ true →
+    comes_of s conn (Say said mask) ≡ Some (identifies s conn mask said)
+says s conn said mask deaf = ap (λ b. cond b (Some (identifies s conn mask said)) None) deaf
 
 -- what a message came to is plain
-pub plain_heard : (secret : Option (List ℕ × List ℕ)) (challenge : List ℕ) (mask : Option ℕ)
-    (message : Message) (heard : Heard) → heard ≡ hear secret challenge mask message →
-    IsPlain heard
-plain_heard secret challenge mask message heard is =
-    subst IsPlain (sym is) (hears_plainly secret challenge mask message)
+pub plain_heard : (secret : Option (List ℕ × List ℕ)) (message : Message)
+    (found : Option Listener) (heard : Heard) →
+    Some heard ≡ option_map (λ l. hear secret l.challenge l.mask message) found → IsPlain heard
+plain_heard secret message None heard is = cc
+plain_heard secret message (Some l) heard is =
+    let same : hear secret l.challenge l.mask message ≡ heard = cc in
+    subst IsPlain same (hears_plainly secret l.challenge l.mask message)
+
+-- ---- what can be said
+
+events_sayable : (events : List Event) → All IsSayableEvent events →
+    All IsSayable (map OfEvent events)
+events_sayable events all = All-map IsSayable OfEvent events all
+
+-- what waited for a connection can be said, and what is said after it
+pub waited_sayable : (n conn : ℕ) (ls : List Listener) (items : List Said) →
+    All (IsListener n) ls → items ≡ map OfEvent (waiting_for conn ls) → All IsSayable items
+waited_sayable n conn ls items all is = subst (All IsSayable) (sym is)
+    (events_sayable (waiting_for conn ls) (waiting_sayable n conn ls all))
+
+pub then_sayable : (before items : List Said) (said : Said) → All IsSayable before →
+    IsSayable said → items ≡ before ++ said ∷ [] → All IsSayable items
+then_sayable before items said all last is =
+    subst (All IsSayable) (sym is) (All-push IsSayable before said all last)
+
+-- and the events between
+pub taken_sayable : (conn : ℕ) (ls : List Listener) (events : List Event)
+    (before items : List Said) → All IsSayableEvent events → All IsSayable before →
+    items ≡ before ++ map OfEvent (taken_by conn ls events) → All IsSayable items
+taken_sayable conn ls events before items sayable all is = subst (All IsSayable) (sym is)
+    (All-append IsSayable before (map OfEvent (taken_by conn ls events)) all
+    (events_sayable (taken_by conn ls events) (taken_by_sayable conn ls events sayable)))
+
+-- ---- the parts stay as they should be
+
+module _ (still : Still) (g : GraphState) (ls : List Listener) (n : ℕ)
+    (mixing : IsMixing still g ls n) where
+  with_listeners : (g' : GraphState) (n' : ℕ) (xs ys : List Listener) → HasScenes g' → xs ≡ ys →
+      All (IsListener n') ys → IsMixing still g' xs n'
+  with_listeners g' n' xs ys scenes is all = record {
+    listeners_are = subst (All (IsListener n')) (sym is) all;
+    scenes = scenes;
+    program = mixing.program;
+  }
+
+  pub same_mixing : (xs : List Listener) → xs ≡ ls → IsMixing still g xs n
+  same_mixing xs is = with_listeners g n xs ls mixing.scenes is mixing.listeners_are
+
+  pub rests_mixing : (actor : Option ℕ) (xs : List Listener) → xs ≡ map (ended actor) ls →
+      IsMixing still g xs n
+  rests_mixing actor xs is = with_listeners g n xs (map (ended actor) ls) mixing.scenes is
+      (ended_all n actor ls mixing.listeners_are)
+
+  pub others_mixing : (actor : Option ℕ) (conn : ℕ) (xs ys : List Listener) →
+      xs ≡ filter (is_other conn) ls → ys ≡ map (ended actor) xs → IsMixing still g ys n
+  others_mixing actor conn xs ys left is =
+      with_listeners g n ys (map (ended actor) (filter (is_other conn) ls)) mixing.scenes
+      (is ∙ ap (map (ended actor)) left)
+      (ended_all n actor (filter (is_other conn) ls) (others_all n conn ls mixing.listeners_are))
+
+  pub masked_mixing : (actor : Option ℕ) (conn mask : ℕ) (xs ys : List Listener) →
+      is_deaf mask ≡ true → xs ≡ map (with_mask conn mask) ls → ys ≡ map (ended actor) xs →
+      IsMixing still g ys n
+  masked_mixing actor conn mask xs ys deaf masked is =
+      with_listeners g n ys (map (ended actor) (map (with_mask conn mask) ls)) mixing.scenes
+      (is ∙ ap (map (ended actor)) masked)
+      (ended_all n actor (map (with_mask conn mask) ls)
+      (masked_all n conn mask ls deaf mixing.listeners_are))
+
+  pub joined_mixing : (actor : Option ℕ) (challenge : List ℕ) (xs ys : List Listener) →
+      xs ≡ ls ++ new_listener n challenge ∷ [] → ys ≡ map (ended actor) xs →
+      IsMixing still g ys (n + 1)
+  joined_mixing actor challenge xs ys joined is =
+      with_listeners g (n + 1) ys (map (ended actor) (ls ++ new_listener n challenge ∷ []))
+      mixing.scenes (is ∙ ap (map (ended actor)) joined)
+      (ended_all (n + 1) actor (ls ++ new_listener n challenge ∷ [])
+      (joined_all n challenge ls mixing.listeners_are))
+
+  pub told_mixing : (g' : GraphState) (actor : Option ℕ) (events : List Event)
+      (ws xs ys : List Listener) → HasScenes g' → All IsSayableEvent events → ws ≡ ls →
+      xs ≡ map (queued actor events) ws → ys ≡ map (ended actor) xs → IsMixing still g' ys n
+  told_mixing g' actor events ws xs ys scenes sayable same told is =
+      with_listeners g' n ys (map (ended actor) (map (queued actor events) ls)) scenes
+      (is ∙ ap (map (ended actor)) (told ∙ ap (map (queued actor events)) same))
+      (ended_all n actor (map (queued actor events) ls)
+      (queued_all n actor events ls sayable mixing.listeners_are))
+
+-- ---- these parts, seen from the whole
+
+-- a whole of such parts
+abbrev whole : StudioState → Notes → Option (List ℕ × List ℕ) → List Connection → ℕ →
+    List Listener → Mixed
+whole studio notes secret conns n ls = record {
+  mixer = record {
+    studio = studio;
+    notes = notes;
+    secret = secret;
+    conns = conns;
+    next_conn = n;
+  };
+  listeners = ls;
+}
+
+-- the mixer of the parts where these listen
+abbrev mixer_with : Still → GraphState → Option (List ℕ × List ℕ) → List Listener → ℕ → Mixer
+mixer_with still g secret ls n = mixer_of still g secret (map conn_of ls) n
+
+abbrev mixed_with : Still → GraphState → Option (List ℕ × List ℕ) → List Listener → ℕ → Mixed
+mixed_with still g secret ls n = record {
+  mixer = mixer_with still g secret ls n;
+  listeners = ls;
+}
+
+-- what an outcome leaves of these parts
+parts_after : (still still' : Still) (g g' : GraphState)
+    (secret : Option (List ℕ × List ℕ)) (ls : List Listener) (a' : Gathered) (n n' : ℕ)
+    (o : Outcome) →
+    o.studio ≡ studio_of still' g' → o.notes ≡ no_notes → o.next_conn ≡ n' →
+    a'.secret ≡ secret → a'.listeners ≡ listening o ls →
+    mixed_of still' g' a' n' ≡ mixed_after (mixed_with still g secret ls n) o
+parts_after still still' g g' secret ls a' n n' o studio notes next knows heard =
+    ap (λ x. whole x no_notes a'.secret (map conn_of a'.listeners) n' a'.listeners) (sym studio)
+    ∙ ap (λ x. whole o.studio x a'.secret (map conn_of a'.listeners) n' a'.listeners) (sym notes)
+    ∙ ap (λ x. whole o.studio o.notes x (map conn_of a'.listeners) n' a'.listeners) knows
+    ∙ ap (λ x. whole o.studio o.notes secret (map conn_of a'.listeners) x a'.listeners) (sym next)
+    ∙ ap (λ x. whole o.studio o.notes secret (map conn_of x) o.next_conn x) heard
+    ∙ ap (λ x. whole o.studio o.notes secret x o.next_conn (listening o ls))
+    (listens o ls)
+
+module _ (still : Still) (g : GraphState) (secret : Option (List ℕ × List ℕ))
+    (ls : List Listener) (n : ℕ) (s : Mixed) (view : mixed_with still g secret ls n ≡ s) where
+  same_listeners : s.listeners ≡ ls
+  same_listeners = ap (λ (t : Mixed). t.listeners) (sym view)
+
+  conns_are : s.mixer.conns ≡ map conn_of ls
+  conns_are = ap (λ (t : Mixed). t.mixer.conns) (sym view)
+
+  same_next : s.mixer.next_conn ≡ n
+  same_next = ap (λ (t : Mixed). t.mixer.next_conn) (sym view)
+
+  same_secret : s.mixer.secret ≡ secret
+  same_secret = ap (λ (t : Mixed). t.mixer.secret) (sym view)
+
+  -- no batch of anybody waits
+  pub idle_view : IsIdle s.mixer
+  idle_view = subst (λ (t : Mixed). IsIdle t.mixer) view (λ conn.
+      ap (λ o. option_map_or (λ (c : Connection). first_due g.clock c.batches) o false)
+      (found_conn conn ls) ∙ idle_one (listener_at conn ls))
+    where
+      idle_one : (found : Option Listener) →
+          option_map_or (λ (c : Connection). first_due g.clock c.batches) (option_map conn_of found)
+          false ≡ false
+      idle_one None = refl
+      idle_one (Some l) = refl
+
+  -- the open connection of a number
+  lost_view : (conn : ℕ) → listener_at conn ls ≡ None →
+      conn_at conn s.mixer.conns ≡ None
+  lost_view conn found = ap (conn_at conn) conns_are ∙ found_conn conn ls
+      ∙ ap (option_map conn_of) found
+
+  found_view : (conn : ℕ) (l : Listener) → listener_at conn ls ≡ Some l →
+      conn_at conn s.mixer.conns ≡ Some (conn_of l)
+  found_view conn l found = ap (conn_at conn) conns_are ∙ found_conn conn ls
+      ∙ ap (option_map conn_of) found
+
+  open_or : (conn : ℕ) (found : Option Listener) (b cut : Bool) →
+      listener_at conn ls ≡ found → Some b ≡ option_map (λ l. l.cut) found → b ≡ cut →
+      IsOpen s.mixer.conns conn cut
+  open_or conn None b cut at is same = cc
+  open_or conn (Some l) b cut at is same = record {
+    one = conn_of l;
+    found = found_view conn l at;
+    cut_is = cc;
+  }
+
+  pub open_view : (conn : ℕ) (b cut : Bool) →
+      Some b ≡ option_map (λ l. l.cut) (listener_at conn ls) → b ≡ cut →
+      IsOpen s.mixer.conns conn cut
+  open_view conn b cut is same = open_or conn (listener_at conn ls) b cut refl is same
+
+  gone_or : (conn : ℕ) (found : Option Listener) → listener_at conn ls ≡ found →
+      None ≡ option_map (λ l. l.cut) found → conn_at conn s.mixer.conns ≡ None
+  gone_or conn None at is = lost_view conn at
+  gone_or conn (Some l) at is = cc
+
+  pub gone_view : (conn : ℕ) → None ≡ option_map (λ l. l.cut) (listener_at conn ls) →
+      conn_at conn s.mixer.conns ≡ None
+  gone_view conn is = gone_or conn (listener_at conn ls) refl is
+
+  -- what an open connection said comes to what was heard
+  module _ (message : Message) (heard : Heard) where
+    hears_or : (conn : ℕ) (found : Option Listener) (b : Bool) →
+        listener_at conn ls ≡ found → Some b ≡ option_map (λ l. l.cut) found → b ≡ false →
+        Some heard ≡ option_map (λ l. hear secret l.challenge l.mask message) found →
+        comes_to s.mixer (Hear conn message) ≡ comes_of s.mixer conn heard
+    hears_or conn None b at is uncut heard_is = cc
+    hears_or conn (Some l) b at is uncut heard_is =
+        hears s.mixer conn message (conn_of l) heard (found_view conn l at) (cc)
+        (let e : heard ≡ hear secret l.challenge l.mask message = cc in
+        e ∙ ap (λ x. hear x l.challenge l.mask message) (sym same_secret))
+
+    pub hears_view : (conn : ℕ) (b : Bool) →
+        Some b ≡ option_map (λ l. l.cut) (listener_at conn ls) → b ≡ false →
+        Some heard ≡ option_map (λ l. hear secret l.challenge l.mask message)
+        (listener_at conn ls) →
+        comes_to s.mixer (Hear conn message) ≡ comes_of s.mixer conn heard
+    hears_view conn b is uncut heard_is =
+        hears_or conn (listener_at conn ls) b refl is uncut heard_is
+
+  -- whether there is room for one more
+  pub has_place : (b : Bool) → nat_lt (length ls) 64 ≡ b →
+      nat_lt (length s.mixer.conns) 64 ≡ b
+  has_place b is = ap (λ cs. nat_lt (length cs) 64) conns_are
+      ∙ ap (λ k. nat_lt k 64) (length-map ls conn_of) ∙ is
+
+  -- what an outcome leaves that keeps the studio and the next number
+  rests_after : (a' : Gathered) (o : Outcome) → o.studio ≡ s.mixer.studio →
+      o.notes ≡ s.mixer.notes → o.next_conn ≡ s.mixer.next_conn → a'.secret ≡ secret →
+      a'.listeners ≡ listening o ls → mixed_of still g a' n ≡ mixed_after s o
+  rests_after a' o studio notes next knows heard =
+      subst (λ t. mixed_of still g a' n ≡ mixed_after t o) view
+      (parts_after still still g g secret ls a' n n o
+      (studio ∙ ap (λ (t : Mixed). t.mixer.studio) (sym view))
+      (notes ∙ ap (λ (t : Mixed). t.mixer.notes) (sym view)) (next ∙ same_next) knows heard)
+
+  -- a reply that changes nothing
+  pub only_left : (a' : Gathered) (own : Own) (said : List Said) → a'.secret ≡ secret →
+      a'.listeners ≡ map (ended (actor_of own)) ls →
+      mixed_of still g a' n ≡ mixed_after s (only s.mixer own said)
+  only_left a' own said knows is =
+      rests_after a' (only s.mixer own said) refl refl refl knows
+      (is ∙ ap (map (ended (actor_of own))) (sym (queued_nothing (actor_of own) ls)))
+
+  -- a connection goes, or is closed
+  pub others_left : (a' : Gathered) (own : Own) (conn : ℕ) (xs : List Listener) →
+      a'.secret ≡ secret → xs ≡ filter (is_other conn) ls →
+      a'.listeners ≡ map (ended (actor_of own)) xs → mixed_of still g a' n
+      ≡ mixed_after s (record (only s.mixer own []) { attendance = att.Leaves conn })
+  others_left a' own conn xs knows left is = rests_after a'
+      (record (only s.mixer own []) { attendance = att.Leaves conn }) refl refl refl knows
+      (is ∙ ap (map (ended (actor_of own)))
+      (left ∙ sym (queued_nothing (actor_of own) (filter (is_other conn) ls))))
+
+  -- a connection is identified
+  pub identified_left : (a' : Gathered) (conn mask : ℕ) (said : Said) (xs : List Listener) →
+      a'.secret ≡ secret → xs ≡ map (with_mask conn mask) ls →
+      a'.listeners ≡ map (ended (Some conn)) xs → mixed_of still g a' n
+      ≡ mixed_after s (identifies s.mixer conn mask said)
+  identified_left a' conn mask said xs knows left is = rests_after a'
+      (identifies s.mixer conn mask said) refl refl refl knows
+      (is ∙ ap (map (ended (Some conn)))
+      (left ∙ sym (queued_nothing (Some conn) (map (with_mask conn mask) ls))))
+
+  -- a connection comes
+  pub joined_left : (a' : Gathered) (challenge : List ℕ) (said : Said) (xs : List Listener) →
+      a'.secret ≡ secret → xs ≡ ls ++ new_listener n challenge ∷ [] →
+      a'.listeners ≡ map (ended (Some n)) xs → mixed_of still g a' (n + 1)
+      ≡ mixed_after s (joins s.mixer challenge said)
+  joined_left a' challenge said xs knows left is =
+      subst (λ (t : Mixed). mixed_of still g a' (n + 1)
+      ≡ mixed_after t (joins t.mixer challenge said)) view (parts_after still still g g secret ls a' n (n + 1)
+      (joins (mixer_with still g secret ls n) challenge said) refl refl refl knows
+      (is ∙ ap (map (ended (Some n)))
+      (left ∙ sym (queued_nothing (Some n) (ls ++ new_listener n challenge ∷ [])))))
+
+  -- ---- what is told
+
+  -- what waits for it, and what is said
+  told_view : (conn : ℕ) (o : Outcome) (before items : List Said) → o.events ≡ [] →
+      before ≡ map OfEvent (waiting_for conn ls) → items ≡ before ++ o.said →
+      items ≡ told_to conn s.listeners o
+  told_view conn o before items none waited is =
+      told_plainly conn s.listeners o items none (is ∙ ap (λ l. l ++ o.said)
+      (waited ∙ ap (λ xs. map OfEvent (waiting_for conn xs)) (sym same_listeners)))
+
+  -- what waits for it alone
+  pub waits_view : (conn : ℕ) (o : Outcome) (items : List Said) → o.events ≡ [] → o.said ≡ [] →
+      items ≡ map OfEvent (waiting_for conn ls) → items ≡ told_to conn s.listeners o
+  waits_view conn o items none silent is = told_view conn o items items none is
+      (sym (append-nil items) ∙ ap (λ l. items ++ l) (sym silent))
+
+  -- to who comes Hello alone
+  pub says_hello : (spoken : Spoken) (challenge : List ℕ) (said : Said) (before : List Said) →
+      All (IsListener n) ls → spoken.own ≡ Told n → before ≡ [] →
+      said ≡ hello secret challenge → spoken.said.items ≡ before ++ said ∷ [] →
+      Says s.listeners spoken (joins s.mixer challenge (hello s.mixer.secret challenge))
+  says_hello spoken challenge said before all own empty said_is is = subst (λ (t : Mixed).
+      Says t.listeners spoken (joins t.mixer challenge (hello t.mixer.secret challenge))) view
+      (let one : Outcome = joins (mixer_with still g secret ls n) challenge
+      (hello secret challenge) in record {
+        own = own;
+        said = told_plainly n ls one spoken.said.items refl
+            (is ∙ ap (λ l. l ++ said ∷ []) empty ∙ ap (λ x. x ∷ []) said_is
+            ∙ ap (λ found. map OfEvent (waiting_of found) ++ hello secret challenge ∷ [])
+            (sym (unknown n ls all)));
+      })
+
+-- ---- requests
+
+-- what a request came to that was answered, with the pairs of its events
+pub record IsAsked (asked : Option Requested) (done : Done) (twins : List Twin) : Type 0 where
+  pub all : Requested
+  pub asked_is : asked ≡ Some all
+  pub done_is : all.done ≡ done
+  pub tells : Tells twins all.events
+  pub few : length twins ≤ most_events
+
+pub was_asked : (asked : Option Requested) (found : Option Done) (done : Done)
+    (twins : List Twin) → found ≡ Some done → found ≡ done_in asked → TellsRequested twins asked →
+    IsAsked asked done twins
+was_asked None found done twins some is tells = cc
+was_asked (Some r) found done twins some is tells = record {
+  all = r;
+  asked_is = refl;
+  done_is = cc;
+  tells = tells.0;
+  few = tells.1;
+}
+
+-- what was done can be said
+pub done_sayable_as : (s : StudioState) (notes : Notes) (ask : Ask) (done : Done)
+    (twins : List Twin) → IsTrue (is_some ask.id) → IsAsked (requested s notes ask) done twins →
+    IsSayable (Response done)
+done_sayable_as s notes ask done twins has_id asked =
+    subst (λ d. IsSayable (Response d)) asked.done_is
+    (done_sayable s notes ask asked.all has_id asked.asked_is)
+
+module _ (still : Still) (g : GraphState) (secret : Option (List ℕ × List ℕ))
+    (ls : List Listener) (n : ℕ) (s : Mixed) (view : mixed_with still g secret ls n ≡ s)
+    (ask : Ask) where
+  -- a request comes to what is requested
+  pub asks : (conn : ℕ) (r : Requested) → requested (studio_of still g) no_notes ask ≡ Some r →
+      comes_of s.mixer conn (AskOne ask) ≡ Some (answers s.mixer conn (Some r))
+  asks conn r is = subst (λ (t : Mixed). comes_of t.mixer conn (AskOne ask)
+      ≡ Some (answers t.mixer conn (Some r))) view (rw is refl)
+
+  -- and to nothing where it isn't built
+  pub asks_nothing : (conn : ℕ) → None ≡ done_in (requested (studio_of still g) no_notes ask) →
+      comes_of s.mixer conn (AskOne ask) ≡ None
+  asks_nothing conn is = subst (λ (t : Mixed). comes_of t.mixer conn (AskOne ask) ≡ None) view
+      (rw (nothing_done (requested (studio_of still g) no_notes ask) is) refl)
+    where
+      nothing_done : (asked : Option Requested) → None ≡ done_in asked → asked ≡ None
+      nothing_done None is = refl
+      nothing_done (Some r) is = cc
+
+  -- the connections that it leaves
+  module _ (done : Done) (twins : List Twin)
+      (asked : IsAsked (requested (studio_of still g) no_notes ask) done twins)
+      (all : All (IsListener n) ls) where
+    pub answered_left : (g' : GraphState) (a' : Gathered) (conn : ℕ) (ws xs : List Listener) →
+        studio_of still g' ≡ studio_after (studio_of still g)
+        (requested (studio_of still g) no_notes ask) → a'.secret ≡ secret → ws ≡ ls →
+        xs ≡ map (queued (Some conn) (queued_in twins)) ws →
+        a'.listeners ≡ map (ended (Some conn)) xs →
+        mixed_of still g' a' n ≡ mixed_after s (answers s.mixer conn (Some asked.all))
+    answered_left g' a' conn ws xs studio knows same told is =
+        subst (λ (t : Mixed). mixed_of still g' a' n
+        ≡ mixed_after t (answers t.mixer conn (Some asked.all))) view
+        (parts_after still still g g' secret ls a' n n
+        (answers (mixer_with still g secret ls n) conn (Some asked.all))
+        (sym (studio ∙ ap (studio_after (studio_of still g)) asked.asked_is))
+        (notes_kept (studio_of still g) no_notes ask asked.all asked.asked_is) refl knows
+        (is ∙ ap (map (ended (Some conn)))
+        (told ∙ ap (map (queued (Some conn) (queued_in twins))) same
+        ∙ sym (ap (λ es. map (queued (Some conn) es) ls) asked.tells.events_are
+        ∙ queued_heard n (queued_in twins) asked.tells.rest asked.tells.unheard (Some conn)
+        ls all))))
+
+    -- what waits for it, the events that it takes, and the answer
+    pub answered_told : (conn : ℕ) (ws : List Listener) (before then items : List Said) →
+        ws ≡ ls → before ≡ map OfEvent (waiting_for conn ls) →
+        then ≡ before ++ map OfEvent (taken_by conn ws (queued_in twins)) →
+        items ≡ then ++ Response done ∷ [] →
+        items ≡ told_to conn s.listeners (answers s.mixer conn (Some asked.all))
+    answered_told conn ws before then items same waited told is =
+        is ∙ ap (λ l. l ++ Response done ∷ []) (told
+        ∙ ap (λ l. l ++ map OfEvent (taken_by conn ws (queued_in twins))) waited
+        ∙ ap (λ l. map OfEvent (waiting_for conn ls)
+        ++ map OfEvent (taken_by conn l (queued_in twins))) same
+        ∙ sym (map-append OfEvent (waiting_for conn ls)
+        (taken_by conn ls (queued_in twins)))
+        ∙ ap (λ es. map OfEvent (waiting_for conn ls ++ es))
+        (sym (ap (taken_by conn ls) asked.tells.events_are
+        ∙ taken_heard n (queued_in twins) asked.tells.rest asked.tells.unheard conn ls
+        all)))
+        ∙ ap (λ d. map OfEvent (waiting_for conn ls
+        ++ taken_by conn ls asked.all.events) ++ Response d ∷ []) (sym asked.done_is)
+        ∙ ap (λ (t : Mixed). map OfEvent (waiting_for conn t.listeners
+        ++ taken_by conn t.listeners asked.all.events) ++ Response asked.all.done ∷ []) view

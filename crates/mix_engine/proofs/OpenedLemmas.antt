@@ -25,13 +25,12 @@ use Rattle.mix_model.specs.Lines.{lines_done, unless}
 use Rattle.mix_model.specs.Lines.{serial_named, named_scene_cause}
 use Rattle.mix_model.specs.Opening.{opening_of, opening_studio, opening_state, opening_preview}
 use Rattle.mix_model.specs.Opening.{studio_over, preview_cause}
-use Rattle.mix_engine.specs.Mixer.{Mixer, start_of, studio_or}
-use Rattle.mix_engine.specs.Mixings.{mixer_of, IsMixing}
-use Rattle.mix_engine.specs.Members.{IsMember}
+use Rattle.mix_engine.specs.Mixer.{Mixer, Connection, start_of, studio_or}
+use Rattle.mix_engine.specs.Mixings.{mixer_of, IsListener, IsMixing}
 use Rattle.mix_engine.specs.Scenery.{HasScenes}
 use Rattle.mix_engine.specs.Stills.{studio_of}
 use Rattle.mix_engine.specs.Openings.{IsFresh, IsOnProgram, OpensScenes, OpensProgram, still_of}
-use Rattle.mix_engine.specs.declared.member.Member.{Member}
+use Rattle.mix_engine.specs.Listeners.{Listener}
 use Rattle.mix_engine.specs.declared.still.Still.{Still}
 use Rattle.mix_engine.specs.Openings.{are_lines_built, can_open, mixer_opened}
 use Rattle.mix_engine.proofs.OpeningLemmas.{edit_alone, settled_already}
@@ -186,10 +185,10 @@ module _ (c : Collection) (m made : GraphModel) (x : ℕ) (lines : OpensScenes (
       (Some (serial_named m.present c.program), None) lines.0.scenes)
 
   -- the invariant of its mixer
-  pub opened_mixing : (still : Still) (secret : Option (List ℕ × List ℕ)) (members : List Member) →
-      still ≡ still_of c x → members ≡ [] → IsMixing still made.present secret members
-  opened_mixing still secret members still_is nobody = record {
-    members_are = subst (All (IsMember secret)) (sym nobody) (All-nil (IsMember secret));
+  pub opened_mixing : (still : Still) (ls : List Listener) → still ≡ still_of c x → ls ≡ [] →
+      IsMixing still made.present ls 1
+  opened_mixing still ls still_is nobody = record {
+    listeners_are = subst (All (IsListener 1)) (sym nobody) (All-nil (IsListener 1));
     scenes = opened_scenes;
     program = subst (λ (s : Still). s.program < 2 ^ 48) (sym still_is)
         (let low : x ≤ 512 = on.low in omega arith);
@@ -244,12 +243,13 @@ module _ (c : Collection) (m made : GraphModel) (x : ℕ) (lines : OpensScenes (
       ∙ ap (λ s. let mixer : Mixer = opening_state c s in Some mixer) (opened_studio plain)
 
   -- these parts are the mixer that opens
-  pub opened_value : (still : Still) (secret : Option (List ℕ × List ℕ)) (members : List Member) →
-      still ≡ still_of c x → secret ≡ c.secret → members ≡ [] → false ≡ is_some c.studio →
-      Some (mixer_of still made.present secret members 1) ≡ mixer_opened c
-  opened_value still secret members still_is secret_is nobody plain =
-      ap (λ s. Some (mixer_of s made.present secret members 1)) still_is
-      ∙ ap (λ p. Some (mixer_of (still_of c x) made.present p members 1)) secret_is
+  pub opened_value : (still : Still) (secret : Option (List ℕ × List ℕ))
+      (conns : List Connection) → still ≡ still_of c x → secret ≡ c.secret → conns ≡ [] →
+      false ≡ is_some c.studio →
+      Some (mixer_of still made.present secret conns 1) ≡ mixer_opened c
+  opened_value still secret conns still_is secret_is nobody plain =
+      ap (λ s. Some (mixer_of s made.present secret conns 1)) still_is
+      ∙ ap (λ p. Some (mixer_of (still_of c x) made.present p conns 1)) secret_is
       ∙ ap (λ l. Some (mixer_of (still_of c x) made.present c.secret l 1)) nobody
       ∙ sym (opened_mixer (no_studio c.studio plain))
 

@@ -4,6 +4,7 @@ use Rattle.std.proofs.Common.{refl, ap, length, arith, IsTrue}
 use Rattle.mix_model.specs.declared.action.Entry.{Entry}
 use Rattle.mix_engine.specs.declared.setup.Setup.{Setup}
 use Rattle.mix_engine.specs.Mixer.{Mixer, start_of}
+use Rattle.mix_engine.specs.Mixings.{Mixed}
 use Rattle.mix_engine.specs.Openings.{can_open, mixer_opened}
 use Rattle.mix_engine.specs.Engines.{engine_of, opened, are_limits}
 use Rattle.mix_engine.specs.Replayed.{Replayed}
@@ -37,13 +38,14 @@ engine_unopened setup = elim (can_open setup.collection)
     [ true ↦ λ is. cc | false ↦ λ is. refl ]
 
 -- an empty journal is replayed by the mixer that opens
-pub opening_replayed : (setup : Setup) (m : Mixer) (journal : List Entry) → journal ≡ [] →
-    Some m ≡ mixer_opened setup.collection → m.next_conn ≡ 1 →
-    m.studio.graph.next_serial ≤ 513 → IsTrue (are_limits setup.limits) →
+pub opening_replayed : (setup : Setup) (m : Mixed) (journal : List Entry) → journal ≡ [] →
+    Some m.mixer ≡ mixer_opened setup.collection → m.listeners ≡ [] → m.mixer.next_conn ≡ 1 →
+    m.mixer.studio.graph.next_serial ≤ 513 → IsTrue (are_limits setup.limits) →
     Replayed (start_of setup.collection) journal m 0 × IsTrue (are_limits setup.limits)
     × (length journal ≤ setup.limits.turns) × (0 ≤ setup.limits.bytes)
-opening_replayed setup m journal empty is conns serials limits = rw empty (
-  replays_nothing (start_of setup.collection) m 0 (opened_start setup m is) refl conns serials,
+opening_replayed setup m journal empty is nobody conns serials limits = rw empty (
+  replays_nothing (start_of setup.collection) m 0 (opened_start setup m.mixer is) nobody refl conns
+      serials,
   limits,
   omega arith,
   omega arith,

@@ -24,7 +24,10 @@ use Rattle.mix_model.specs.State.{GraphState}
 use Rattle.mix_model.specs.Holders.{is_held}
 use Rattle.mix_model.specs.Walks.{is_active}
 use Rattle.mix_model.specs.Edits.{scene_created, empty_graph}
-use Rattle.mix_model.specs.Lines.{line_cause, line_done, line_early, line_late}
+use Rattle.mix_model.specs.Lines.{line_cause, line_done, line_early, line_late, lines_done, unless}
+use Rattle.std.proofs.Math.Seq.{drop-cons}
+use Rattle.std.specs.List.{list_all}
+use Rattle.std.specs.Prelude.{is_ok, drop, suc}
 use Rattle.mix_model.specs.Settle.{newly_dying}
 use Rattle.mix_model.specs.Marks.{GraphModel, edited, settled_by, row_settled}
 use Rattle.mix_model.specs.Ranks.{weights_within}
@@ -32,7 +35,7 @@ use Rattle.mix_model.specs.Causes.{Cause, first_cause, cause_or, scene_cause, so
 use Rattle.mix_model.specs.Causes.{late_cause, too_deep, above, item_count}
 use Rattle.mix_model.proofs.SetLemmas.{or_left, or_right}
 use Rattle.mix_engine.specs.Scenery.{HasScenes}
-use Rattle.mix_engine.specs.Openings.{IsFresh, Adds, is_line_built}
+use Rattle.mix_engine.specs.Openings.{IsFresh, Adds, is_line_built, are_lines_built}
 
 -- a number that is set to 0, or to a clock that stands at 0
 same_since : (r : Row) (active : Bool) (clock : ℕ) → clock ≡ 0 → r.since ≡ 0 →
@@ -256,3 +259,27 @@ scene_refused g line name fault is other refused =
     subst (λ l. (is_line_built l && is_none (line_cause g l)) ≡ false) (sym is)
     (refused_line g name
     (refused_for (scene_cause g name (scene_created name g)) fault other refused))
+
+-- lines with one that isn't built, or is refused, open not_so scenes
+stopped : (g : GraphState) (line : Line) (more : List Line) (built : Bool)
+    (cause : Option GraphFault) → (built && is_none cause) ≡ false →
+    ((built && list_all is_line_built more)
+    && is_ok (unless cause (lines_done (line_done g line) more))) ≡ false
+stopped g line more false cause not_so = refl
+stopped g line more true None not_so = cc
+stopped g line more true (Some cause) not_so = elim (list_all is_line_built more)
+    as (λ b. (b && false) ≡ false) [ true ↦ refl | false ↦ refl ]
+
+pub stopped_at : (lines : List Line) (g : GraphState) (i : ℕ) (line : Line) (b : Bool)
+    (m : GraphModel) → i < length lines → line ≡ get_or lines i line →
+    are_lines_built lines ≡ are_lines_built (drop i lines) →
+    lines_done empty_graph lines ≡ lines_done g (drop i lines) → b ≡ false → Adds b g line m →
+    (are_lines_built lines && is_ok (lines_done empty_graph lines)) ≡ false
+stopped_at lines g i line b m within is built done not_so adds =
+    let left : drop i lines ≡ line ∷ drop (suc i) lines =
+    drop-cons lines i line within ∙ ap (λ l. l ∷ drop (suc i) lines) (sym is) in
+    ap (λ x. x && is_ok (lines_done empty_graph lines)) (built ∙ ap are_lines_built left)
+    ∙ ap (λ r. are_lines_built (line ∷ drop (suc i) lines) && is_ok r)
+    (done ∙ ap (lines_done g) left)
+    ∙ stopped g line (drop (suc i) lines) (is_line_built line) (line_cause g line)
+    (subst (λ c. Adds c g line m) not_so adds)

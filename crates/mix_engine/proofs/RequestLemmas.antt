@@ -2,6 +2,7 @@
 use Rattle.std.proofs.Common.{◌≡◌, ℕ, List, [], Bool, true, false, refl, subst, IsTrue}
 use Rattle.std.proofs.Common.{is_some, Option, Some, None, Result, Ok, Err}
 use Rattle.std.specs.Prelude.{unwrap_or}
+use Rattle.mix_base.specs.Json.{Object}
 use Rattle.mix_json.specs.Fields.{◌>>=◌, refused_if}
 use Rattle.mix_model.specs.declared.ask.Ask.{Ask}
 use Rattle.mix_model.specs.declared.body.Body.{Body}
@@ -18,13 +19,15 @@ use Rattle.mix_events.specs.Statuses.{status_name}
 use Rattle.mix_engine.specs.declared.request_type.RequestType.{RequestType}
 use Rattle.mix_engine.specs.declared.request_type.RequestType.TheVariants as type
 use Rattle.mix_engine.specs.declared.still.Still.{Still}
+use Rattle.mix_engine.specs.CustomEvents.{broadcast_custom_event, custom_data, custom_event}
+use Rattle.mix_engine.specs.CustomEvents.{sent_custom_event}
 use Rattle.mix_engine.specs.Effects.{Effect, only_asks}
 use Rattle.mix_engine.specs.Requests.{Requested, requested, requested_by, requested_or, effect_of}
 use Rattle.mix_engine.specs.Requests.{type_of, done_with, answer_in, notes_in, studio_in}
 use Rattle.mix_engine.specs.SceneRequests.{create_scene, scene_creation, scene_list, scene_made}
 use Rattle.mix_engine.specs.SceneRequests.{scene_name}
 use Rattle.mix_engine.specs.Stills.{studio_of}
-use Rattle.mix_engine.proofs.AnswerLemmas.{HasName, Named, scene_name_named}
+use Rattle.mix_engine.proofs.AnswerLemmas.{HasName, Named, scene_name_named, custom_data_named}
 use Rattle.mix_engine.proofs.AnswerLemmas.{scene_list_whole, creation_whole}
 
 -- ---- every line of the table
@@ -42,7 +45,8 @@ checked_fits P false true effect fits = refl
 checked_fits P false false effect fits = fits
 
 module _ (P : Effect → Type 0) (s : StudioState) (notes : Notes)
-    (made : (name : List ℕ) → P (scene_creation s notes name)) where
+    (made : (name : List ℕ) → P (scene_creation s notes name))
+    (sent : (fields : Object) → P (custom_event s notes fields)) where
   made_fits : (name : Result (List ℕ) ℕ) → Named name → Fits P (name >>= scene_made s notes)
   made_fits (Ok name) named = checked_fits P (has_name s.graph name)
       (is_some (late_cause (scene_created name s.graph))) (scene_creation s notes name) (made name)
@@ -52,7 +56,16 @@ module _ (P : Effect → Type 0) (s : StudioState) (notes : Notes)
   unfolding create_scene
   created_fits body = made_fits (scene_name body) (scene_name_named body)
 
-  -- so with every line, where it is so with the effects of the two that are built
+  -- what is told where data was read
+  sent_fits : (read : Result Object ℕ) → Named read → Fits P (read >>= sent_custom_event s notes)
+  sent_fits (Ok fields) named = sent fields
+  sent_fits (Err status) named = named
+
+  broadcast_fits : (body : Body) → Fits P (broadcast_custom_event s notes body)
+  unfolding broadcast_custom_event
+  broadcast_fits body = sent_fits (custom_data body) (custom_data_named body)
+
+  -- so with every line, where it is so with the effects of those that are built
   line_fits : P (only_asks s notes (scene_list s)) → (body : Body) (kind : RequestType)
       (effect : Result Effect ℕ) → effect_of s notes body kind ≡ Some effect → Fits P effect
   unfolding status_name
@@ -60,6 +73,9 @@ module _ (P : Effect → Type 0) (s : StudioState) (notes : Notes)
       let e : Ok (only_asks s notes (scene_list s)) ≡ effect = cc in subst (Fits P) e listed
   line_fits listed body type.CreateScene effect is =
       let e : create_scene s notes body ≡ effect = cc in subst (Fits P) e (created_fits body)
+  line_fits listed body type.BroadcastCustomEvent effect is =
+      let e : broadcast_custom_event s notes body ≡ effect = cc in
+      subst (Fits P) e (broadcast_fits body)
   line_fits listed body type.Sleep effect is =
       let e : Err 206 ≡ effect = cc in subst (Fits P) e refl
   line_fits listed body type.NotBuilt effect is = cc
@@ -77,13 +93,15 @@ comes s notes ask (Some effect) r is = (effect, refl, cc)
 with_request : (P : Effect → Type 0) (Q : Requested → Type 0) (s : StudioState) (notes : Notes)
     (ask : Ask) (r : Requested) → P (only_asks s notes (scene_list s)) →
     ((name : List ℕ) → P (scene_creation s notes name)) →
+    ((fields : Object) → P (custom_event s notes fields)) →
     ((effect : Result Effect ℕ) → Fits P effect → Q (requested_by s notes ask effect)) →
     requested s notes ask ≡ Some r → Q r
 unfolding requested
-with_request P Q s notes ask r listed made each is =
+with_request P Q s notes ask r listed made sent each is =
     let kind : RequestType = type_of (unwrap_or ask.kind []) in
     let from = comes s notes ask (effect_of s notes ask.body kind) r is in
-    subst Q from.2 (each from.0 (line_fits P s notes made listed ask.body kind from.0 from.1))
+    subst Q from.2
+    (each from.0 (line_fits P s notes made sent listed ask.body kind from.0 from.1))
 
 -- ---- what requests keep
 
@@ -96,7 +114,7 @@ notes_stay notes (Err status) fits = refl
 pub notes_kept : (s : StudioState) (notes : Notes) (ask : Ask) (r : Requested) →
     requested s notes ask ≡ Some r → r.notes ≡ notes
 notes_kept s notes ask r is = with_request (λ e. e.notes ≡ notes) (λ q. q.notes ≡ notes)
-    s notes ask r refl (λ name. refl) (notes_stay notes) is
+    s notes ask r refl (λ name. refl) (λ fields. refl) (notes_stay notes) is
 
 -- the studio is that of its sources
 abbrev IsStill : Still → StudioState → Type 0
@@ -118,7 +136,8 @@ pub still_kept : (still : Still) (g : GraphState) (ask : Ask) (r : Requested) �
     r.studio ≡ studio_of still r.studio.graph
 still_kept still g ask r is =
     with_request (λ e. IsStill still e.studio) (λ q. IsStill still q.studio)
-    (studio_of still g) no_notes ask r refl (made_still still g) (studio_stays still g) is
+    (studio_of still g) no_notes ask r refl (made_still still g) (λ fields. refl)
+    (studio_stays still g) is
 
 -- ---- what can be said
 
@@ -135,6 +154,7 @@ pub done_sayable : (s : StudioState) (notes : Notes) (ask : Ask) (r : Requested)
 done_sayable s notes ask r has_id is =
     with_request (λ e. IsWholeAnswer e.answer) (λ q. IsSayable (Response q.done))
     s notes ask r (scene_list_whole s) (λ name. creation_whole s.graph.next_serial)
+    (λ fields. tt)
     (λ effect fits. (has_id_of effect, done_fits (unwrap_or ask.kind []) ask.id effect fits)) is
   where
     has_id_of : (effect : Result Effect ℕ) →

@@ -1,14 +1,19 @@
 pub mod Answers
 pub mod Built
 pub mod Connections
+pub mod CustomEvents
 pub mod Effects
 pub mod Engines
 pub mod Known
+pub mod Laws
+pub mod Listeners
 pub mod Members
 pub mod Mixer
 pub mod Mixings
 pub mod Openings
 pub mod Outcomes
+pub mod Places
+pub mod Queues
 pub mod Replayed
 pub mod Requesting
 pub mod Requests
@@ -18,4 +23,5 @@ pub mod Settled
 pub mod Spoken
 pub mod Step
 pub mod Stills
+pub mod Telling
 pub mod Told

@@ -16,6 +16,7 @@ use Rattle.mix_engine.specs.declared.request_type.RequestType.TheVariants as typ
 use Rattle.mix_engine.specs.Mixer.{Mixer}
 use Rattle.mix_engine.specs.Effects.{Effect}
 use Rattle.mix_engine.specs.Outcomes.{Outcome, only, unbuilt}
+use Rattle.mix_engine.specs.CustomEvents.{broadcast_custom_event}
 use Rattle.mix_engine.specs.SceneRequests.{get_scene_list, create_scene}
 
 -- what a request comes to: its answer, its events, and what it leaves
@@ -64,14 +65,16 @@ unfoldable pub type_of : List ℕ → RequestType
 type_of kind =
     if bytes_eq kind (codes "GetSceneList") then type.GetSceneList
     else (if bytes_eq kind (codes "CreateScene") then type.CreateScene
+    else (if bytes_eq kind (codes "BroadcastCustomEvent") then type.BroadcastCustomEvent
     else (if bytes_eq kind (codes "Sleep") then type.Sleep
-    else (if is_known kind then type.NotBuilt else type.Unknown)))
+    else (if is_known kind then type.NotBuilt else type.Unknown))))
 
 -- the table of requests: the effect of each, or the status that it is answered with; a request that
 -- isn't built yet has no line
 abbrev pub effect_of : StudioState → Notes → Body → RequestType → Option (Result Effect ℕ)
 effect_of s notes body type.GetSceneList = Some (get_scene_list s notes body)
 effect_of s notes body type.CreateScene = Some (create_scene s notes body)
+effect_of s notes body type.BroadcastCustomEvent = Some (broadcast_custom_event s notes body)
 effect_of s notes body type.Sleep = Some (Err 206)
 effect_of s notes body type.NotBuilt = None
 effect_of s notes body type.Unknown = Some (Err 204)

@@ -1,78 +1,81 @@
 //! The mixer as it stands: one step is one action, and all of the state is here.
-ghost use Rattle.std.specs.Prelude.{◌≡◌, ◌+◌, ◌<◌, ◌≤◌, ◌∷◌, [], IfOk, OnOk, OnErr, Some, None, All, false};
-ghost use Rattle.std.specs.Prelude.{IfSome, IsTrue, is_some, option_map, length};
-ghost use Rattle.mix_engine.specs.Answers.{is_due};
-ghost use Rattle.std.specs.Option.{option_copied};
+ghost use Rattle.std.specs.Prelude.{◌≡◌, ◌+◌, ◌≤◌, [], IfOk, OnOk, OnErr, Some, None, false, true};
+ghost use Rattle.std.specs.Prelude.{IfSome, IsTrue, is_some, length, map};
 ghost use Rattle.mix_events.specs.Sayable.{IsSayable};
-ghost use Rattle.mix_engine.specs.Spoken.{Speaks, HasNumbers, IsSaid};
+ghost use Rattle.mix_engine.specs.Answers.{is_due};
+ghost use Rattle.mix_engine.specs.Built.{is_deaf};
+ghost use Rattle.mix_engine.specs.Listeners.{conn_of, listener_at};
+ghost use Rattle.mix_engine.specs.Spoken.{Speaks, Says, HasNumbers, IsSaid};
 
-use crate::members::{close, enter, member_of};
 use crate::requests::answer;
-use crate::{Member, Own, Spoken, Still};
+use crate::{Audience, Own, Spoken, Still};
 use mix_base::{Bytes32, ConnId, NoMemory};
 use mix_graph::Graph;
 use mix_model::{Action, Ask, Message, Said};
-use mix_session::{Heard, Secret, Session};
+use mix_session::Heard;
 use std::alloc::Global;
 use std::marker::Model;
 
 /// The most connections that may be open.
 const MOST_CONNS: usize = 64;
 
-/// The mixer as it stands. Contracts see its whole state.
+/// The most events of one request, those of the settling aside.
+const MOST_EVENTS: u32 = 4;
+
+/// The code that a connection is closed with that was cut (obs-websocket 5, session invalidated).
+const SESSION_INVALIDATED: u16 = 4011;
+
+/// The mixer as it stands. Contracts see its whole state, and the open connections with the events
+/// that wait for each.
 #[derive(Drop)]
 pub struct Mixing {
     pub(crate) graph: Graph,
     pub(crate) still: Still,
-    pub(crate) secret: Option<Secret>,
-    pub(crate) members: Vec<Member>,
+    pub(crate) audience: Audience,
     pub(crate) next_conn: u32,
 }
 
 impl Model for Mixing {
-    ghost use Rattle.std.specs.Prelude.{option_map};
-    ghost use Rattle.mix_session.specs.SessionState.{secret_of};
-    ghost use Rattle.mix_engine.specs.Mixer.{Mixer};
-    ghost use Rattle.mix_engine.specs.Mixings.{mixer_of, IsMixing};
     ghost use Rattle.mix_base.specs.contracts.json.Json as json_contracts;
     ghost use Rattle.std.specs.Coded.{codes};
+    ghost use Rattle.mix_engine.specs.Mixings.{Mixed, mixed_of, IsMixing};
 
-    ghost Value = { Mixer };
+    ghost Value = { Mixed };
 
     ghost coded = { Prim.hlevel (codes, json_contracts.the_row.coded) };
 
-    ghost view = { λ m. mixer_of m.still m.graph.present (option_map secret_of m.secret)
-        m.members.items m.next_conn };
+    ghost view = { λ m. mixed_of m.still m.graph.present m.audience m.next_conn };
 
     ghost invariant = { λ m.
-        IsMixing m.still m.graph.present (option_map secret_of m.secret) m.members.items };
+        IsMixing m.still m.graph.present m.audience.listeners m.next_conn };
 }
 
 impl Mixing {
-    ghost use Rattle.mix_engine.specs.Spoken.{comes_to, after_any};
-    ghost use Rattle.mix_engine.specs.Mixings.{comes_of, IsQuietConn, IsIdle, IsPlain, Rests};
-    ghost use Rattle.mix_engine.specs.Outcomes.{closes};
-    ghost use Rattle.mix_engine.specs.Connections.{conn_at};
-    ghost use Rattle.mix_engine.specs.Members.{conn_of};
+    ghost use Rattle.mix_engine.specs.Spoken.{comes_to};
+    ghost use Rattle.mix_engine.specs.Mixings.{comes_of, mixed_after, mixed_after_any};
+    ghost use Rattle.mix_engine.specs.Mixings.{IsIdle, IsPlain};
+    ghost use Rattle.mix_engine.specs.Outcomes.{closes, only};
 
     /// Does one action, and nothing where it isn't built.
     pub fn act(&mut self, alloc: Global, action: &Action) -> Result<Option<Spoken>, NoMemory>
-        requires numbers { HasNumbers self.old }
-        ensures reply { IfOk result (λ spoken. Speaks spoken (comes_to self.old action.now)) }
-        ensures state { OnOk result (self.new ≡ after_any self.old (comes_to self.old action.now)) }
+        requires numbers { HasNumbers self.old.mixer }
+        ensures reply { IfOk result
+            (λ spoken. Speaks self.old.listeners spoken (comes_to self.old.mixer action.now)) }
+        ensures state { OnOk result
+            (self.new ≡ mixed_after_any self.old (comes_to self.old.mixer action.now)) }
         ensures said { IfOk result (λ spoken. IfSome spoken IsSaid) }
-        ensures quiet { All IsQuietConn self.old.conns }
-        ensures conns { self.new.next_conn ≤ self.old.next_conn + 1 }
-        ensures serials { self.new.studio.graph.next_serial
-            ≤ self.old.studio.graph.next_serial + 1 }
+        ensures listeners { self.old.mixer.conns ≡ map conn_of self.old.listeners }
+        ensures conns { self.new.mixer.next_conn ≤ self.old.mixer.next_conn + 1 }
+        ensures serials { self.new.mixer.studio.graph.next_serial
+            ≤ self.old.mixer.studio.graph.next_serial + 1 }
         ensures err { OnErr result (self.new ≡ self.old) }
     {
         self.calm();
         match action {
-            Action::Arrive { challenge } => self.arrive(alloc, *challenge),
+            Action::Arrive { challenge } => self.arrive(alloc, challenge),
             Action::Hear { conn, message } => self.hear(alloc, *conn, message),
-            Action::Poll { conn } => Ok(Some(self.poll(alloc, *conn))),
-            Action::Leave { conn } => Ok(Some(self.leave(alloc, *conn))),
+            Action::Poll { conn } => self.poll(alloc, *conn),
+            Action::Leave { conn } => self.leave(alloc, *conn),
             Action::BatchNext { .. }
             | Action::VideoTick
             | Action::AudioTick
@@ -83,21 +86,21 @@ impl Mixing {
 
     /// How many rows die.
     pub fn dying(&self) -> u32
-        ensures value { result ≡ length self.now.studio.graph.dying }
+        ensures value { result ≡ length self.now.mixer.studio.graph.dying }
     {
         self.graph.dying()
     }
 
     /// Width and height of the picture in pixels.
     pub fn canvas(&self) -> (u32, u32)
-        ensures value { result ≡ self.now.studio.canvas }
+        ensures value { result ≡ self.now.mixer.studio.canvas }
     {
         self.still.canvas
     }
 
     /// Whether a stop was asked for: so far nobody can.
     pub fn stopping(&self) -> bool
-        ensures value { result ≡ self.now.notes.stop }
+        ensures value { result ≡ self.now.mixer.notes.stop }
     {
         self.calm();
         false
@@ -105,50 +108,44 @@ impl Mixing {
 
     /// Whether the next request of the connection's oldest batch is due: so far no batch waits.
     pub fn due(&self, conn: ConnId) -> bool
-        ensures value { result ≡ is_due self.now conn }
+        ensures value { result ≡ is_due self.now.mixer conn }
     {
         self.calm();
         let _ = conn;
         false
     }
 
-    /// So far nobody wants an event, no batch waits, and nobody asked for a stop.
+    /// So far no batch waits, and nobody asked for a stop; the connections of the state are those
+    /// that listen.
     fn calm(&self)
-        ensures quiet { All IsQuietConn self.now.conns }
-        ensures idle { IsIdle self.now }
-        ensures stop { self.now.notes.stop ≡ false }
+        ensures listeners { self.now.mixer.conns ≡ map conn_of self.now.listeners }
+        ensures idle { IsIdle self.now.mixer }
+        ensures stop { self.now.mixer.notes.stop ≡ false }
     {
-        let _ = self.members.len();
-    }
-
-    /// The open connection of this number.
-    fn member(&self, conn: ConnId) -> Option<&Member>
-        ensures value { option_map conn_of (option_copied result) ≡ conn_at conn self.now.conns }
-        ensures knows { IfSome (option_copied result) (λ m. m.session.secret ≡ self.now.secret) }
-        ensures rests { Rests self.now }
-    {
-        member_of(self.members.as_slice(), conn)
+        let _ = self.audience.len();
     }
 
     /// A connection comes.
-    fn arrive(&mut self, alloc: Global, challenge: Bytes32) -> Result<Option<Spoken>, NoMemory>
-        requires numbers { HasNumbers self.old }
-        ensures reply { IfOk result
-            (λ spoken. Speaks spoken (comes_to self.old (Action.Arrive challenge))) }
+    fn arrive(&mut self, alloc: Global, challenge: &Bytes32) -> Result<Option<Spoken>, NoMemory>
+        requires numbers { HasNumbers self.old.mixer }
+        ensures reply { IfOk result (λ spoken.
+            Speaks self.old.listeners spoken (comes_to self.old.mixer (Action.Arrive challenge.now))) }
         ensures state { OnOk result
-            (self.new ≡ after_any self.old (comes_to self.old (Action.Arrive challenge))) }
+            (self.new ≡ mixed_after_any self.old (comes_to self.old.mixer (Action.Arrive challenge.now))) }
         ensures said { IfOk result (λ spoken. IfSome spoken IsSaid) }
-        ensures conns { self.new.next_conn ≤ self.old.next_conn + 1 }
-        ensures serials { self.new.studio.graph.next_serial ≡ self.old.studio.graph.next_serial }
+        ensures conns { self.new.mixer.next_conn ≤ self.old.mixer.next_conn + 1 }
+        ensures serials { self.new.mixer.studio.graph.next_serial
+            ≡ self.old.mixer.studio.graph.next_serial }
         ensures err { OnErr result (self.new ≡ self.old) }
     {
-        if self.members.len() >= MOST_CONNS {
-            return Ok(None);
+        if self.audience.len() >= MOST_CONNS {
+            self.audience.end(None);
+            return Ok(Some(silent(alloc, Own::Full)));
         }
         let conn = ConnId(self.next_conn);
-        let (session, hello) = Session::start(alloc, self.secret.as_ref(), &challenge)?;
-        let said = one(alloc, hello)?;
-        self.members.push(Member { conn, session })?;
+        let mut said = Vec::with_capacity(alloc, 1)?;
+        said.push_reserved(self.audience.join(alloc, conn, challenge)?);
+        self.audience.end(Some(conn));
         self.next_conn += 1;
         Ok(Some(Spoken {
             own: Own::Told { conn },
@@ -156,31 +153,51 @@ impl Mixing {
         }))
     }
 
-    /// A connection asks for what waits for it: so far nothing waits.
-    fn poll(&self, alloc: Global, conn: ConnId) -> Spoken
-        ensures reply { Speaks (Some result) (comes_to self.now (Action.Poll conn)) }
-        ensures keeps { self.now ≡ after_any self.now (comes_to self.now (Action.Poll conn)) }
-        ensures said { IsSaid result }
+    /// A connection asks for what waits for it.
+    fn poll(&mut self, alloc: Global, conn: ConnId) -> Result<Option<Spoken>, NoMemory>
+        ensures reply { IfOk result (λ spoken.
+            Speaks self.old.listeners spoken (comes_to self.old.mixer (Action.Poll conn))) }
+        ensures state { OnOk result
+            (self.new ≡ mixed_after_any self.old (comes_to self.old.mixer (Action.Poll conn))) }
+        ensures said { IfOk result (λ spoken. IfSome spoken IsSaid) }
+        ensures conns { self.new.mixer.next_conn ≡ self.old.mixer.next_conn }
+        ensures serials { self.new.mixer.studio.graph.next_serial
+            ≡ self.old.mixer.studio.graph.next_serial }
+        ensures err { OnErr result (self.new ≡ self.old) }
     {
-        match self.member(conn) {
-            None => silent(alloc, Own::Gone { conn }),
-            Some(_) => silent(alloc, Own::Told { conn }),
+        match self.audience.is_cut(conn) {
+            None => Ok(Some(self.gone(alloc, conn))),
+            Some(true) => self.close(alloc, conn, SESSION_INVALIDATED),
+            Some(false) => {
+                let said = self.audience.waiting(alloc, conn, 0)?;
+                self.audience.end(Some(conn));
+                Ok(Some(Spoken {
+                    own: Own::Told { conn },
+                    said,
+                }))
+            }
         }
     }
 
     /// A connection goes.
-    fn leave(&mut self, alloc: Global, conn: ConnId) -> Spoken
-        ensures reply { Speaks (Some result) (comes_to self.old (Action.Leave conn)) }
-        ensures state { self.new ≡ after_any self.old (comes_to self.old (Action.Leave conn)) }
-        ensures said { IsSaid result }
-        ensures conns { self.new.next_conn ≡ self.old.next_conn }
-        ensures serials { self.new.studio.graph.next_serial ≡ self.old.studio.graph.next_serial }
+    fn leave(&mut self, alloc: Global, conn: ConnId) -> Result<Option<Spoken>, NoMemory>
+        ensures reply { IfOk result (λ spoken.
+            Speaks self.old.listeners spoken (comes_to self.old.mixer (Action.Leave conn))) }
+        ensures state { OnOk result
+            (self.new ≡ mixed_after_any self.old (comes_to self.old.mixer (Action.Leave conn))) }
+        ensures said { IfOk result (λ spoken. IfSome spoken IsSaid) }
+        ensures conns { self.new.mixer.next_conn ≡ self.old.mixer.next_conn }
+        ensures serials { self.new.mixer.studio.graph.next_serial
+            ≡ self.old.mixer.studio.graph.next_serial }
+        ensures err { OnErr result (self.new ≡ self.old) }
     {
-        match self.member(conn) {
-            None => silent(alloc, Own::Gone { conn }),
-            Some(_) => {
-                close(&mut self.members, conn);
-                silent(alloc, Own::Left { conn })
+        match self.audience.is_cut(conn) {
+            None => Ok(Some(self.gone(alloc, conn))),
+            Some(true) => self.close(alloc, conn, SESSION_INVALIDATED),
+            Some(false) => {
+                self.audience.leave(conn);
+                self.audience.end(Some(conn));
+                Ok(Some(silent(alloc, Own::Left { conn })))
             }
         }
     }
@@ -192,22 +209,25 @@ impl Mixing {
         conn: ConnId,
         message: &Message,
     ) -> Result<Option<Spoken>, NoMemory>
-        requires numbers { HasNumbers self.old }
-        ensures reply { IfOk result
-            (λ spoken. Speaks spoken (comes_to self.old (Action.Hear conn message.now))) }
+        requires numbers { HasNumbers self.old.mixer }
+        ensures reply { IfOk result (λ spoken.
+            Speaks self.old.listeners spoken (comes_to self.old.mixer (Action.Hear conn message.now))) }
         ensures state { OnOk result
-            (self.new ≡ after_any self.old (comes_to self.old (Action.Hear conn message.now))) }
+            (self.new ≡ mixed_after_any self.old (comes_to self.old.mixer (Action.Hear conn message.now))) }
         ensures said { IfOk result (λ spoken. IfSome spoken IsSaid) }
-        ensures conns { self.new.next_conn ≡ self.old.next_conn }
-        ensures serials { self.new.studio.graph.next_serial
-            ≤ self.old.studio.graph.next_serial + 1 }
+        ensures conns { self.new.mixer.next_conn ≡ self.old.mixer.next_conn }
+        ensures serials { self.new.mixer.studio.graph.next_serial
+            ≤ self.old.mixer.studio.graph.next_serial + 1 }
         ensures err { OnErr result (self.new ≡ self.old) }
     {
-        let Some(member) = self.member(conn) else {
-            return Ok(None);
-        };
-        let heard = member.session.hear(alloc, message)?;
-        self.heard(alloc, conn, heard)
+        match self.audience.is_cut(conn) {
+            None => Ok(Some(self.gone(alloc, conn))),
+            Some(true) => self.close(alloc, conn, SESSION_INVALIDATED),
+            Some(false) => match self.audience.hear(alloc, conn, message)? {
+                None => unreachable!(),
+                Some(heard) => self.heard(alloc, conn, heard),
+            },
+        }
     }
 
     /// What a connection said is done.
@@ -217,38 +237,62 @@ impl Mixing {
         conn: ConnId,
         heard: Heard,
     ) -> Result<Option<Spoken>, NoMemory>
-        requires numbers { HasNumbers self.old }
+        requires numbers { HasNumbers self.old.mixer }
         requires plain { IsPlain heard }
-        ensures reply { IfOk result (λ spoken. Speaks spoken (comes_of self.old conn heard)) }
-        ensures state { OnOk result (self.new ≡ after_any self.old (comes_of self.old conn heard)) }
+        requires is_there { is_some (listener_at conn self.old.listeners) ≡ true }
+        ensures reply { IfOk result (λ spoken.
+            Speaks self.old.listeners spoken (comes_of self.old.mixer conn heard)) }
+        ensures state { OnOk result
+            (self.new ≡ mixed_after_any self.old (comes_of self.old.mixer conn heard)) }
         ensures said { IfOk result (λ spoken. IfSome spoken IsSaid) }
-        ensures conns { self.new.next_conn ≡ self.old.next_conn }
-        ensures serials { self.new.studio.graph.next_serial
-            ≤ self.old.studio.graph.next_serial + 1 }
+        ensures conns { self.new.mixer.next_conn ≡ self.old.mixer.next_conn }
+        ensures serials { self.new.mixer.studio.graph.next_serial
+            ≤ self.old.mixer.studio.graph.next_serial + 1 }
         ensures err { OnErr result (self.new ≡ self.old) }
     {
         match heard {
             Heard::Say { said, mask } => self.say(alloc, conn, said, mask),
             Heard::Ask(ask) => self.ask(alloc, conn, ask),
             Heard::Batch(_) => Ok(None),
-            Heard::Close(code) => Ok(Some(self.close(alloc, conn, code))),
+            Heard::Close(code) => self.close(alloc, conn, code),
         }
     }
 
-    /// A connection is closed with a code.
-    fn close(&mut self, alloc: Global, conn: ConnId, code: u16) -> Spoken
-        ensures reply { Speaks (Some result) (Some (closes self.old conn code)) }
-        ensures state { self.new ≡ after_any self.old (Some (closes self.old conn code)) }
+    /// A connection that isn't open is told so.
+    fn gone(&mut self, alloc: Global, conn: ConnId) -> Spoken
+        requires is_gone { listener_at conn self.old.listeners ≡ None }
+        ensures reply { Says self.old.listeners result (only self.old.mixer (Own.Gone conn) []) }
+        ensures state { self.new ≡ mixed_after self.old (only self.old.mixer (Own.Gone conn) []) }
         ensures said { IsSaid result }
-        ensures conns { self.new.next_conn ≡ self.old.next_conn }
-        ensures serials { self.new.studio.graph.next_serial ≡ self.old.studio.graph.next_serial }
     {
-        close(&mut self.members, conn);
-        silent(alloc, Own::Closed { conn, code })
+        self.audience.end(Some(conn));
+        silent(alloc, Own::Gone { conn })
     }
 
-    /// A connection is answered at once, and enters the mask that it named: so far only one without
-    /// events.
+    /// A connection is told what waits for it, and closed with a code.
+    fn close(&mut self, alloc: Global, conn: ConnId, code: u16) -> Result<Option<Spoken>, NoMemory>
+        requires is_there { is_some (listener_at conn self.old.listeners) ≡ true }
+        ensures reply { IfOk result (λ spoken. Speaks self.old.listeners spoken
+            (Some (closes self.old.mixer conn code))) }
+        ensures state { OnOk result
+            (self.new ≡ mixed_after self.old (closes self.old.mixer conn code)) }
+        ensures said { IfOk result (λ spoken. IfSome spoken IsSaid) }
+        ensures conns { self.new.mixer.next_conn ≡ self.old.mixer.next_conn }
+        ensures serials { self.new.mixer.studio.graph.next_serial
+            ≡ self.old.mixer.studio.graph.next_serial }
+        ensures err { OnErr result (self.new ≡ self.old) }
+    {
+        let said = self.audience.waiting(alloc, conn, 0)?;
+        self.audience.leave(conn);
+        self.audience.end(Some(conn));
+        Ok(Some(Spoken {
+            own: Own::Closed { conn, code },
+            said,
+        }))
+    }
+
+    /// A connection is answered at once, and enters the mask that it named: so far one without the
+    /// events of activity.
     fn say(
         &mut self,
         alloc: Global,
@@ -257,55 +301,66 @@ impl Mixing {
         mask: u32,
     ) -> Result<Option<Spoken>, NoMemory>
         requires said { IsSayable said }
-        ensures reply { IfOk result
-            (λ spoken. Speaks spoken (comes_of self.old conn (Heard.Say said mask))) }
+        requires is_there { is_some (listener_at conn self.old.listeners) ≡ true }
+        ensures reply { IfOk result (λ spoken.
+            Speaks self.old.listeners spoken (comes_of self.old.mixer conn (Heard.Say said mask))) }
         ensures state { OnOk result
-            (self.new ≡ after_any self.old (comes_of self.old conn (Heard.Say said mask))) }
+            (self.new ≡ mixed_after_any self.old (comes_of self.old.mixer conn (Heard.Say said mask))) }
         ensures said { IfOk result (λ spoken. IfSome spoken IsSaid) }
-        ensures conns { self.new.next_conn ≡ self.old.next_conn }
-        ensures serials { self.new.studio.graph.next_serial ≡ self.old.studio.graph.next_serial }
+        ensures conns { self.new.mixer.next_conn ≡ self.old.mixer.next_conn }
+        ensures serials { self.new.mixer.studio.graph.next_serial
+            ≡ self.old.mixer.studio.graph.next_serial }
         ensures err { OnErr result (self.new ≡ self.old) }
     {
-        if mask != 0 {
+        if !is_deaf(mask) {
             return Ok(None);
         }
-        let said = one(alloc, said)?;
-        let heard = Heard::Say {
-            said: Said::Identified,
-            mask,
-        };
-        enter(&mut self.members, conn, &heard);
+        let mut all = self.audience.waiting(alloc, conn, 1)?;
+        all.push_reserved(said);
+        self.audience.identify(conn, mask);
+        self.audience.end(Some(conn));
         Ok(Some(Spoken {
             own: Own::Told { conn },
-            said,
+            said: all,
         }))
     }
 
-    /// A connection asks for one request. The room of its answer is taken first.
+    /// A connection asks for one request. The room of all that is told is taken first.
     fn ask(&mut self, alloc: Global, conn: ConnId, ask: Ask) -> Result<Option<Spoken>, NoMemory>
-        requires numbers { HasNumbers self.old }
+        requires numbers { HasNumbers self.old.mixer }
         requires id { IsTrue (is_some ask.id) }
-        ensures reply { IfOk result
-            (λ spoken. Speaks spoken (comes_of self.old conn (Heard.Ask ask))) }
+        requires is_there { is_some (listener_at conn self.old.listeners) ≡ true }
+        ensures reply { IfOk result (λ spoken.
+            Speaks self.old.listeners spoken (comes_of self.old.mixer conn (Heard.Ask ask))) }
         ensures state { OnOk result
-            (self.new ≡ after_any self.old (comes_of self.old conn (Heard.Ask ask))) }
+            (self.new ≡ mixed_after_any self.old (comes_of self.old.mixer conn (Heard.Ask ask))) }
         ensures said { IfOk result (λ spoken. IfSome spoken IsSaid) }
-        ensures conns { self.new.next_conn ≡ self.old.next_conn }
-        ensures serials { self.new.studio.graph.next_serial
-            ≤ self.old.studio.graph.next_serial + 1 }
+        ensures conns { self.new.mixer.next_conn ≡ self.old.mixer.next_conn }
+        ensures serials { self.new.mixer.studio.graph.next_serial
+            ≤ self.old.mixer.studio.graph.next_serial + 1 }
         ensures err { OnErr result (self.new ≡ self.old) }
     {
-        let mut said = Vec::new(alloc);
-        said.reserve(1)?;
-        let Some(done) = answer(alloc, &mut self.graph, self.still, ask)? else {
+        let mut said = self.audience.waiting(alloc, conn, MOST_EVENTS + 1)?;
+        self.audience.reserve(MOST_EVENTS)?;
+        let mut twins = Vec::new(alloc);
+        let Some(done) = answer(alloc, &mut self.graph, self.still, ask, &mut twins)? else {
             return Ok(None);
         };
+        self.audience.tell(conn, twins, &mut said);
         said.push_reserved(Said::Response(done));
+        self.audience.end(Some(conn));
         Ok(Some(Spoken {
             own: Own::Told { conn },
             said,
         }))
     }
+}
+
+/// Whether a mask has no bit of activity or of showing.
+fn is_deaf(mask: u32) -> bool
+    ensures value { result ≡ is_deaf mask }
+{
+    mask & 131_072 == 0 && mask & 262_144 == 0
 }
 
 /// An answer that says nothing.
@@ -317,13 +372,4 @@ fn silent(alloc: Global, own: Own) -> Spoken
         own,
         said: Vec::new(alloc),
     }
-}
-
-/// A list of one text.
-fn one(alloc: Global, said: Said) -> Result<Vec<Said>, NoMemory>
-    ensures value { IfOk result (λ list. list.items ≡ said ∷ []) }
-{
-    let mut list = Vec::new(alloc);
-    list.push(said)?;
-    Ok(list)
 }

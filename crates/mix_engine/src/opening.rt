@@ -7,7 +7,7 @@ ghost use Rattle.mix_session.specs.SessionState.{secret_of};
 ghost use Rattle.mix_engine.specs.Openings.{mixer_opened, still_of};
 ghost use Rattle.mix_engine.specs.Openings.{IsFresh, Adds, OpensScenes, OpensProgram};
 
-use crate::{Mixing, Still};
+use crate::{Audience, Mixing, Still};
 use mix_base::{Bytes32, Limits, Name, NoMemory, Serial, Text};
 use mix_graph::Graph;
 use mix_model::{Collection, GraphFault, Kind, Line};
@@ -17,10 +17,11 @@ use std::alloc::Global;
 impl Mixing {
     /// Opens a collection: nobody is connected. None where it can't be opened.
     pub fn open(alloc: Global, collection: &Collection) -> Result<Option<Mixing>, NoMemory>
-        ensures value { IfOk result (λ mixing. mixing ≡ mixer_opened collection.now) }
+        ensures value { IfOk result (λ mixing. option_map (λ m. m.mixer) mixing ≡ mixer_opened collection.now) }
         ensures serials { IfOk result
-            (λ mixing. IfSome mixing (λ m. m.studio.graph.next_serial ≤ 513)) }
-        ensures conns { IfOk result (λ mixing. IfSome mixing (λ m. m.next_conn ≡ 1)) }
+            (λ mixing. IfSome mixing (λ m. m.mixer.studio.graph.next_serial ≤ 513)) }
+        ensures conns { IfOk result (λ mixing. IfSome mixing (λ m. m.mixer.next_conn ≡ 1)) }
+        ensures nobody { IfOk result (λ mixing. IfSome mixing (λ m. m.listeners ≡ [])) }
     {
         if collection.studio.is_some() {
             return Ok(None);
@@ -35,8 +36,7 @@ impl Mixing {
         Ok(Some(Mixing {
             graph,
             still: still_of(collection, program),
-            secret,
-            members: Vec::new(alloc),
+            audience: Audience::new(alloc, secret),
             next_conn: 1,
         }))
     }

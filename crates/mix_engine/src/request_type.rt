@@ -8,6 +8,7 @@ use crate::known::is_known;
 pub enum RequestType {
     GetSceneList,
     CreateScene,
+    BroadcastCustomEvent,
     /// A request of batches alone.
     Sleep,
     /// A request that isn't built yet.
@@ -28,6 +29,8 @@ impl RequestType {
             RequestType::GetSceneList
         } else if kind == "CreateScene" {
             RequestType::CreateScene
+        } else if kind == "BroadcastCustomEvent" {
+            RequestType::BroadcastCustomEvent
         } else if kind == "Sleep" {
             RequestType::Sleep
         } else if is_known(kind) {

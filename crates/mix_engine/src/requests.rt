@@ -5,28 +5,35 @@ ghost use Rattle.mix_engine.specs.Requests.{done_with, requested};
 ghost use Rattle.mix_engine.specs.Requesting.{done_in, studio_after};
 ghost use Rattle.mix_engine.specs.Scenery.{HasScenes};
 ghost use Rattle.mix_engine.specs.Stills.{studio_of};
+ghost use Rattle.mix_engine.specs.Telling.{TellsRequested};
 
+use crate::custom_events::broadcast_custom_event;
 use crate::scenes::{create_scene, scene_list};
 use crate::{RequestType, Still};
 use mix_base::{Json, NoMemory, Text};
 use mix_graph::Graph;
-use mix_model::{Ask, Done};
+use mix_model::{Ask, Done, Twin};
 use std::alloc::Global;
 
-/// What is done about a request, and nothing where it isn't built.
+/// What is done about a request, and nothing where it isn't built. Its events come as pairs, which are
+/// made before anything is changed; those of the settling aside, which nobody is told yet.
 pub fn answer(
     alloc: Global,
     graph: &mut Graph,
     still: Still,
     ask: Ask,
+    twins: &mut Vec<Twin>,
 ) -> Result<Option<Done>, NoMemory>
     requires serial { graph.old.present.next_serial < 4294967295 }
     requires scenes { HasScenes graph.old.present }
     requires program { still.program < 2 ^ 48 }
+    requires empty { twins.old.items ≡ [] }
     ensures reply { IfOk result (λ done. done
         ≡ done_in (requested (studio_of still graph.old.present) no_notes ask)) }
     ensures state { OnOk result (studio_of still graph.new.present
         ≡ studio_after (studio_of still graph.old.present)
+        (requested (studio_of still graph.old.present) no_notes ask)) }
+    ensures tells { OnOk result (TellsRequested twins.new.items
         (requested (studio_of still graph.old.present) no_notes ask)) }
     ensures scenes { HasScenes graph.new.present }
     ensures grows { graph.new.present.next_serial ≤ graph.old.present.next_serial + 1 }
@@ -40,7 +47,11 @@ pub fn answer(
             Ok(Some(done(kind, id, Ok(Some(Json::Obj(answer))))))
         }
         RequestType::CreateScene => {
-            let answer = create_scene(alloc, graph, still, &body)?;
+            let answer = create_scene(alloc, graph, still, &body, twins)?;
+            Ok(Some(done(kind, id, answer)))
+        }
+        RequestType::BroadcastCustomEvent => {
+            let answer = broadcast_custom_event(alloc, &body, twins)?;
             Ok(Some(done(kind, id, answer)))
         }
         RequestType::Sleep => Ok(Some(done(kind, id, Err(206)))),

@@ -1,5 +1,5 @@
 //! The requests on scenes.
-ghost use Rattle.std.specs.Prelude.{◌≡◌, ◌<◌, ◌≤◌, ◌+◌, ◌^◌, IfOk, OnOk, OnErr};
+ghost use Rattle.std.specs.Prelude.{◌≡◌, ◌<◌, ◌≤◌, ◌+◌, ◌^◌, [], IfOk, OnOk, OnErr};
 ghost use Rattle.mix_json.specs.Trees.{obj_of, put_fields};
 ghost use Rattle.mix_graph.specs.Refused.{RefusedBy};
 ghost use Rattle.mix_model.specs.Causes.{scene_cause};
@@ -14,12 +14,14 @@ ghost use Rattle.mix_engine.specs.SceneRequests.{preview_fields, program_fields,
 ghost use Rattle.mix_engine.specs.SceneRequests.{refusal, scene_made, scene_name};
 ghost use Rattle.mix_engine.specs.Scenery.{HasScenes};
 ghost use Rattle.mix_engine.specs.Stills.{studio_of};
+ghost use Rattle.mix_engine.specs.Telling.{IsTwin, TellsEffect};
+ghost use Rattle.mix_model.specs.declared.event.Event.TheVariants as event;
 
 use crate::Still;
 use mix_base::{Json, JsonObj, Name, NameFault, NoMemory, Serial, uuid_text};
 use mix_graph::Graph;
 use mix_json::{Fields, Items, need_text};
-use mix_model::{Body, GraphFault};
+use mix_model::{Body, Event, GraphFault, Twin};
 use std::alloc::Global;
 
 /// The fields of GetSceneList's answer.
@@ -146,48 +148,79 @@ pub fn create_scene(
     graph: &mut Graph,
     still: Still,
     body: &Body,
+    twins: &mut Vec<Twin>,
 ) -> Result<Result<Option<Json>, u16>, NoMemory>
     requires serial { graph.old.present.next_serial < 4294967295 }
     requires scenes { HasScenes graph.old.present }
+    requires empty { twins.old.items ≡ [] }
     ensures reply { IfOk result (λ answer. answer
         ≡ answer_in (create_scene (studio_of still graph.old.present) no_notes body.now)) }
     ensures state { OnOk result (studio_of still graph.new.present
         ≡ studio_in (studio_of still graph.old.present)
+        (create_scene (studio_of still graph.old.present) no_notes body.now)) }
+    ensures tells { OnOk result (TellsEffect twins.new.items
         (create_scene (studio_of still graph.old.present) no_notes body.now)) }
     ensures scenes { HasScenes graph.new.present }
     ensures grows { graph.new.present.next_serial ≤ graph.old.present.next_serial + 1 }
     ensures err { OnErr result (graph.new.present ≡ graph.old.present) }
 {
     match scene_name(body) {
-        Ok(name) => make_scene(alloc, graph, still, name),
+        Ok(name) => make_scene(alloc, graph, still, name, twins),
         Err(status) => Ok(Err(status)),
     }
 }
 
-/// Makes a scene of this name, or gives the status that refuses it. Its answer is made first.
+/// Makes a scene of this name, or gives the status that refuses it. Its answer and its event are made
+/// first.
 fn make_scene(
     alloc: Global,
     graph: &mut Graph,
     still: Still,
     name: Name,
+    twins: &mut Vec<Twin>,
 ) -> Result<Result<Option<Json>, u16>, NoMemory>
     requires serial { graph.old.present.next_serial < 4294967295 }
     requires scenes { HasScenes graph.old.present }
+    requires empty { twins.old.items ≡ [] }
     ensures reply { IfOk result (λ answer. answer
         ≡ answer_in (scene_made (studio_of still graph.old.present) no_notes name)) }
     ensures state { OnOk result (studio_of still graph.new.present
         ≡ studio_in (studio_of still graph.old.present)
+        (scene_made (studio_of still graph.old.present) no_notes name)) }
+    ensures tells { OnOk result (TellsEffect twins.new.items
         (scene_made (studio_of still graph.old.present) no_notes name)) }
     ensures scenes { HasScenes graph.new.present }
     ensures grows { graph.new.present.next_serial ≤ graph.old.present.next_serial + 1 }
     ensures err { OnErr result (graph.new.present ≡ graph.old.present) }
 {
     let answer = scene_answer(alloc, graph.next_serial())?;
+    let twin = scene_created(&name, graph.next_serial());
+    twins.reserve(1)?;
     match add_scene(graph, name) {
-        Ok(_) => Ok(Ok(Some(Json::Obj(answer)))),
+        Ok(_) => {
+            twins.push_reserved(twin);
+            Ok(Ok(Some(Json::Obj(answer))))
+        }
         Err(fault) => match refusal(fault) {
             Some(status) => Ok(Err(status)),
             None => Err(NoMemory),
+        },
+    }
+}
+
+/// The event of a new scene.
+fn scene_created(name: &Name, serial: Serial) -> Twin
+    ensures pair { IsTwin result }
+    ensures value { result.queued ≡ event.SceneCreated name.now serial }
+{
+    Twin {
+        queued: Event::SceneCreated {
+            scene: name.share(),
+            serial,
+        },
+        told: Event::SceneCreated {
+            scene: name.share(),
+            serial,
         },
     }
 }

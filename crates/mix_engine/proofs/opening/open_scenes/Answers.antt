@@ -1,7 +1,7 @@
-use Rattle.std.proofs.Common.{refl, sym, ap}
+use Rattle.std.proofs.Common.{refl, sym, ap, rules}
 use Rattle.mix_model.specs.State.{GraphState}
 use Rattle.mix_model.specs.Lines.{lines_done}
-use Rattle.mix_engine.proofs.OpeningLemmas.{fresh_empty}
+use Rattle.mix_engine.proofs.OpeningLemmas.{fresh_empty, stopped_at}
 use Rattle.mix_engine.proofs.opening.open_scenes.Goals as goal
 
 -- so far no line is done
@@ -10,4 +10,12 @@ loop-line-init c = record {
   fresh = fresh_empty c.new-graph.result c.new-graph.ensures.begun c.new-graph.ensures.present;
   built = refl;
   done = ap (λ (g : GraphState). lines_done g c.args.lines.now) (sym c.new-graph.ensures.present);
+}
+
+-- a line that isn't built, or is refused
+pub returns-then-not-branch : goal.returns-then-not-branch
+returns-then-not-branch c = record {
+  value = stopped_at c.args.lines.now c.loop-line.graph.present c.loop-line.line-index _ _ _
+      (search rules) c.line-item.is c.loop-line.invariant.built c.loop-line.invariant.done
+      c.if-not-branch.true c.in_ok-add_line.ensures.added;
 }

@@ -1,9 +1,13 @@
 use Rattle.std.proofs.Common.{ap, refl, Ok, Err, Some}
 use Rattle.mix_base.specs.declared.json.Json as json
 use Rattle.mix_model.specs.Opening.{no_notes}
+use Rattle.mix_engine.specs.CustomEvents.{broadcast_custom_event}
 use Rattle.mix_engine.specs.SceneRequests.{get_scene_list, create_scene}
 use Rattle.mix_engine.specs.Stills.{studio_of}
+use Rattle.mix_engine.proofs.CustomEventLemmas.{custom_keeps}
 use Rattle.mix_engine.proofs.LineLemmas.{replied, studio_left, not_replied, nothing_left}
+use Rattle.mix_engine.proofs.LineLemmas.{told, nothing_told}
+use Rattle.mix_engine.proofs.TellingLemmas.{tells_nothing}
 use Rattle.mix_engine.proofs.requests.answer.Goals as goal
 
 -- GetSceneList leaves the studio as it is
@@ -23,6 +27,14 @@ returns-in_ok-answer-in-GetSceneList-clause-state c =
     studio_left s no_notes c.args.ask _ _ _ c.in-GetSceneList.ensures.value c.as_str.ensures.value
     c.in_ok-kind.ensures.value (get_scene_list s no_notes c.args.ask.body) _ refl refl
 
+pub returns-in_ok-answer-in-GetSceneList-clause-tells :
+    goal.returns-in_ok-answer-in-GetSceneList-clause-tells
+returns-in_ok-answer-in-GetSceneList-clause-tells c =
+    let s = studio_of c.args.still c.args.graph.now.present in
+    told s no_notes c.args.ask _ _ _ c.in-GetSceneList.ensures.value c.as_str.ensures.value
+    c.in_ok-kind.ensures.value _ (get_scene_list s no_notes c.args.ask.body) refl
+    (tells_nothing _ c.requires.empty)
+
 -- CreateScene
 pub returns-in_ok-answer-in-CreateScene-clause-reply :
     goal.returns-in_ok-answer-in-CreateScene-clause-reply
@@ -40,6 +52,43 @@ returns-in_ok-answer-in-CreateScene-clause-state c =
     c.in_ok-kind.ensures.value (create_scene s no_notes c.args.ask.body) _ refl
     c.in_ok-answer-in-CreateScene.ensures.state
 
+pub returns-in_ok-answer-in-CreateScene-clause-tells :
+    goal.returns-in_ok-answer-in-CreateScene-clause-tells
+returns-in_ok-answer-in-CreateScene-clause-tells c =
+    let s = studio_of c.args.still c.args.graph.now.present in
+    told s no_notes c.args.ask _ _ _ c.in-CreateScene.ensures.value c.as_str.ensures.value
+    c.in_ok-kind.ensures.value _ (create_scene s no_notes c.args.ask.body) refl
+    c.in_ok-answer-in-CreateScene.ensures.tells
+
+-- BroadcastCustomEvent leaves the studio as it is, too
+pub returns-in_ok-answer-in-BroadcastCustomEvent-clause-reply :
+    goal.returns-in_ok-answer-in-BroadcastCustomEvent-clause-reply
+returns-in_ok-answer-in-BroadcastCustomEvent-clause-reply c =
+    let s = studio_of c.args.still c.args.graph.now.present in
+    replied s no_notes c.args.ask _ _ _ c.in-BroadcastCustomEvent.ensures.value
+    c.as_str.ensures.value c.in_ok-kind.ensures.value
+    (broadcast_custom_event s no_notes c.args.ask.body) _ _ refl
+    (c.in_ok-answer-in-BroadcastCustomEvent.ensures.reply s no_notes)
+    c.done-in-BroadcastCustomEvent.ensures.value
+
+pub returns-in_ok-answer-in-BroadcastCustomEvent-clause-state :
+    goal.returns-in_ok-answer-in-BroadcastCustomEvent-clause-state
+returns-in_ok-answer-in-BroadcastCustomEvent-clause-state c =
+    let s = studio_of c.args.still c.args.graph.now.present in
+    studio_left s no_notes c.args.ask _ _ _ c.in-BroadcastCustomEvent.ensures.value
+    c.as_str.ensures.value c.in_ok-kind.ensures.value
+    (broadcast_custom_event s no_notes c.args.ask.body) _ refl
+    (custom_keeps s no_notes c.args.ask.body)
+
+pub returns-in_ok-answer-in-BroadcastCustomEvent-clause-tells :
+    goal.returns-in_ok-answer-in-BroadcastCustomEvent-clause-tells
+returns-in_ok-answer-in-BroadcastCustomEvent-clause-tells c =
+    let s = studio_of c.args.still c.args.graph.now.present in
+    told s no_notes c.args.ask _ _ _ c.in-BroadcastCustomEvent.ensures.value
+    c.as_str.ensures.value c.in_ok-kind.ensures.value _
+    (broadcast_custom_event s no_notes c.args.ask.body) refl
+    (c.in_ok-answer-in-BroadcastCustomEvent.ensures.tells s no_notes)
+
 -- a request that isn't built
 pub returns-in-NotBuilt-clause-reply : goal.returns-in-NotBuilt-clause-reply
 returns-in-NotBuilt-clause-reply c =
@@ -50,6 +99,12 @@ pub returns-in-NotBuilt-clause-state : goal.returns-in-NotBuilt-clause-state
 returns-in-NotBuilt-clause-state c =
     nothing_left (studio_of c.args.still c.args.graph.now.present) no_notes c.args.ask _ _ _
     c.in-NotBuilt.ensures.value c.as_str.ensures.value c.in_ok-kind.ensures.value refl
+
+pub returns-in-NotBuilt-clause-tells : goal.returns-in-NotBuilt-clause-tells
+returns-in-NotBuilt-clause-tells c =
+    nothing_told (studio_of c.args.still c.args.graph.now.present) no_notes c.args.ask _ _ _
+    c.in-NotBuilt.ensures.value c.as_str.ensures.value c.in_ok-kind.ensures.value _ refl
+    c.requires.empty
 
 -- Sleep outside a batch
 pub returns-in-Sleep-clause-reply : goal.returns-in-Sleep-clause-reply
@@ -64,6 +119,12 @@ returns-in-Sleep-clause-state c =
     c.in-Sleep.ensures.value c.as_str.ensures.value c.in_ok-kind.ensures.value (Err 206) _ refl
     refl
 
+pub returns-in-Sleep-clause-tells : goal.returns-in-Sleep-clause-tells
+returns-in-Sleep-clause-tells c =
+    told (studio_of c.args.still c.args.graph.now.present) no_notes c.args.ask _ _ _
+    c.in-Sleep.ensures.value c.as_str.ensures.value c.in_ok-kind.ensures.value _ (Err 206) refl
+    c.requires.empty
+
 -- and one that the mixer isn't to know
 pub returns-in-Unknown-clause-reply : goal.returns-in-Unknown-clause-reply
 returns-in-Unknown-clause-reply c =
@@ -76,3 +137,9 @@ returns-in-Unknown-clause-state c =
     studio_left (studio_of c.args.still c.args.graph.now.present) no_notes c.args.ask _ _ _
     c.in-Unknown.ensures.value c.as_str.ensures.value c.in_ok-kind.ensures.value (Err 204) _ refl
     refl
+
+pub returns-in-Unknown-clause-tells : goal.returns-in-Unknown-clause-tells
+returns-in-Unknown-clause-tells c =
+    told (studio_of c.args.still c.args.graph.now.present) no_notes c.args.ask _ _ _
+    c.in-Unknown.ensures.value c.as_str.ensures.value c.in_ok-kind.ensures.value _ (Err 204) refl
+    c.requires.empty

@@ -1,10 +1,13 @@
-use Rattle.std.proofs.Common.{◌∙◌, ap}
+use Rattle.std.proofs.Common.{◌∙◌, ap, arith}
 use Rattle.mix_json.specs.Trees.{obj_of}
+use Rattle.mix_model.specs.declared.event.Event.TheVariants.{SceneCreated}
 use Rattle.mix_model.specs.Opening.{no_notes}
 use Rattle.mix_engine.specs.Stills.{studio_of}
 use Rattle.mix_engine.specs.SceneRequests.{creation_fields}
 use Rattle.mix_engine.proofs.CauseLemmas.{made_answer, made_studio, refused_by}
 use Rattle.mix_engine.proofs.CauseLemmas.{refused_answer, refused_studio}
+use Rattle.mix_engine.proofs.CauseLemmas.{made_tells, refused_tells}
+use Rattle.mix_engine.proofs.TellingLemmas.{only_one}
 use Rattle.mix_engine.proofs.scenes.make_scene.Goals as goal
 
 -- a scene that is made: its answer, and what it leaves
@@ -32,3 +35,22 @@ returns-in-Some-clause-state c =
     ap (studio_of c.args.still) c.in-Err.ensures.err
     ∙ refused_studio s _ _ (refused_by s no_notes c.args.name c.in-Err.fault _
     c.in-Err.ensures.refused c.in-Some.ensures.value)
+
+-- the event of one that is made
+pub returns-in-Ok-clause-tells : goal.returns-in-Ok-clause-tells
+returns-in-Ok-clause-tells c =
+    made_tells (studio_of c.args.still c.args.graph.now.present) no_notes c.args.name _ _
+    c.in-Ok.ensures.refused
+    (only_one _ _ _ _ c.requires.empty c.in_ok-reserve.ensures.items c.push_reserved.ensures.items)
+    c.scene_created-twin.ensures.pair
+    (c.scene_created-twin.ensures.value
+    ∙ ap (SceneCreated c.args.name) c.next_serial-2.ensures.reply)
+    (omega arith)
+
+-- and none of one that is refused
+pub returns-in-Some-clause-tells : goal.returns-in-Some-clause-tells
+returns-in-Some-clause-tells c =
+    let s = studio_of c.args.still c.args.graph.now.present in
+    refused_tells _ _ _ (refused_by s no_notes c.args.name c.in-Err.fault _
+    c.in-Err.ensures.refused c.in-Some.ensures.value)
+    (c.in_ok-reserve.ensures.items ∙ c.requires.empty)

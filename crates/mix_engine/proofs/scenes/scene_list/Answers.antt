@@ -7,6 +7,7 @@ pub returns : goal.returns
 returns c = record {
   value = listed (preview_fields c.args.graph.now.present)
       (program_fields c.args.graph.now.present c.args.still.program)
-      (scenes_fields c.args.graph.now.present) _ _ _ _ _ c.new.ensures.value c.in_ok-fields.ensures.value
-      c.in_ok-fields-2.ensures.value c.in_ok-fields-3.ensures.value c.into_obj.ensures.value;
+      (scenes_fields c.args.graph.now.present) _ _ _ _ _ c.new.ensures.value
+      c.in_ok-fields.ensures.value c.in_ok-fields-2.ensures.value c.in_ok-fields-3.ensures.value
+      c.into_obj.ensures.value;
 }

@@ -10,7 +10,7 @@ pub invariant_of-self-in-Ok-Some : goal.invariant_of-self-in-Ok-Some
 invariant_of-self-in-Ok-Some c = engine_longer (the_view c.self.inside) _ _ _
     (record { from = c.args.from; action = c.args.action }) c.in-Ok-Some.spoken _ _
     c.self.invariant.0 c.self.invariant.1 (rw c.in-Ok-Some.field-0-is at c.in-Ok-Some.ensures.reply)
-    c.in-Ok-Some.ensures.state c.in-Ok-Some.ensures.quiet c.in-Ok-Some.ensures.conns
+    c.in-Ok-Some.ensures.state c.in-Ok-Some.ensures.listeners c.in-Ok-Some.ensures.conns
     c.in-Ok-Some.ensures.serials
     (ap (λ (e : EngineModel). has_room e c.args.action) c.self.view_is
     ∙ sym (c.has_room.ensures.value c.args.action c.line_length-line.ensures.value)
@@ -26,7 +26,7 @@ returns-in-Ok-Some-clause-reply c =
     c.self.view_is (answer_agrees (the_view c.self.inside) _ _ c.push_reserved.new.self.items
     (record { from = c.args.from; action = c.args.action }) c.in-Ok-Some.spoken _
     c.self.invariant.0 (rw c.in-Ok-Some.field-0-is at c.in-Ok-Some.ensures.reply)
-    c.in-Ok-Some.ensures.quiet (c.push_reserved.ensures.items
+    c.in-Ok-Some.ensures.listeners (c.push_reserved.ensures.items
     ∙ ap (λ l. l ++ record { from = c.args.from; action = c.args.action } ∷ [])
     c.in-Ok.ensures.items)
     c.answer.ensures.reply c.answer.ensures.stopping c.answer.ensures.dying)

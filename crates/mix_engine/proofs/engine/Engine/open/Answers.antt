@@ -1,23 +1,37 @@
-use Rattle.std.proofs.Common.{sym, ◌∙◌}
+use Rattle.std.proofs.Common.{◌≡◌, Option, sym, ap, ◌∙◌}
+use Rattle.std.specs.Option.{option_map}
+use Rattle.mix_engine.specs.Mixer.{Mixer}
+use Rattle.mix_engine.specs.Mixings.{Mixed}
+use Rattle.mix_engine.specs.Openings.{mixer_opened}
+use Rattle.mix_engine.specs.declared.setup.Setup.{Setup}
 use Rattle.mix_engine.proofs.Openers.{engine_opened, engine_unopened, opening_replayed}
 use Rattle.mix_engine.proofs.engine.Engine.open.Goals as goal
+
+-- what opens is the mixer of the setup's collection
+opens : (setup : Setup) (made is : Option Mixed) → made ≡ is →
+    option_map (λ m. m.mixer) made ≡ mixer_opened setup.collection →
+    option_map (λ m. m.mixer) is ≡ mixer_opened setup.collection
+opens setup made is same value =
+    sym (ap (option_map (λ (m : Mixed). m.mixer)) same) ∙ value
 
 -- nothing was done yet
 pub invariant_of-result : goal.invariant_of-result
 invariant_of-result c = opening_replayed c.args.setup c.in-Some.mixing c.new.result.items
-    c.new.ensures.items (sym c.in-Some.is ∙ c.in_ok-open.ensures.value)
+    c.new.ensures.items (opens c.args.setup _ _ c.in-Some.is c.in_ok-open.ensures.value)
+    (rw c.in-Some.is at c.in_ok-open.ensures.nobody)
     (rw c.in-Some.is at c.in_ok-open.ensures.conns)
     (rw c.in-Some.is at c.in_ok-open.ensures.serials) c.requires.limits
 
 -- the collection can't be opened
 pub returns-in-None : goal.returns-in-None
 returns-in-None c = record {
-  value = engine_unopened c.args.setup (sym c.in-None.is ∙ c.in_ok-open.ensures.value);
+  value = engine_unopened c.args.setup
+      (opens c.args.setup _ _ c.in-None.is c.in_ok-open.ensures.value);
 }
 
 -- it is opened
 pub returns-in-Some : goal.returns-in-Some
 returns-in-Some c = record {
-  value = engine_opened c.args.setup c.in-Some.mixing c.new.result.items c.new.ensures.items
-      (sym c.in-Some.is ∙ c.in_ok-open.ensures.value);
+  value = engine_opened c.args.setup c.in-Some.mixing.mixer c.new.result.items
+      c.new.ensures.items (opens c.args.setup _ _ c.in-Some.is c.in_ok-open.ensures.value);
 }

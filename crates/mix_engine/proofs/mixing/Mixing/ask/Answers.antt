@@ -1,18 +1,56 @@
-use Rattle.std.proofs.Common.{rules}
-use Rattle.mix_engine.proofs.MixingLemmas.{asks, answer_sayable}
+use Rattle.std.proofs.Common.{Some, refl, ◌∙◌}
+use Rattle.mix_model.specs.Opening.{no_notes}
+use Rattle.mix_engine.specs.Requests.{requested}
+use Rattle.mix_engine.specs.Stills.{studio_of}
+use Rattle.mix_engine.proofs.MixingLemmas.{IsAsked, was_asked, asks, answered_left, answered_told}
+use Rattle.mix_engine.proofs.MixingLemmas.{told_mixing, waited_sayable, taken_sayable}
+use Rattle.mix_engine.proofs.MixingLemmas.{then_sayable, done_sayable_as, speaks, leaves_after}
 use Rattle.mix_engine.proofs.mixing.Mixing.ask.Goals as goal
+
+-- what it came to
+asked : (c : goal.After-end) → IsAsked
+    (requested (studio_of c.self.inside.still c.self.inside.graph.present) no_notes c.args.ask)
+    c.in-Some.done c.answer.new.twins.items
+asked c = was_asked _ _ _ _ c.in-Some.is c.in_ok-done.ensures.reply c.in_ok-done.ensures.tells
+
+-- its events can be said
+pub invariant_of-self-2 : goal.invariant_of-self-2
+invariant_of-self-2 c =
+    told_mixing _ _ c.self.inside.audience.listeners _ c.self.invariant _ (Some c.args.conn) _ _ _ _
+    c.in_ok-done.ensures.scenes (asked c).tells.sayable c.in_ok-reserve.ensures.listeners
+    c.tell.ensures.listeners c.end.ensures.listeners
+
+-- it is told what waits for it, the events that it takes, and its answer
+pub returns-clause-reply : goal.returns-clause-reply
+returns-clause-reply c =
+    speaks c.args.self.now.listeners _ _ _
+    (asks _ _ _ _ _ _ c.self.view_is c.args.ask c.args.conn (asked c).all (asked c).asked_is)
+    (record {
+      own = refl;
+      said = answered_told _ _ _ _ _ _ c.self.view_is c.args.ask c.in-Some.done _ (asked c)
+          c.self.invariant.listeners_are c.args.conn _ _ _ _ c.in_ok-reserve.ensures.listeners
+          c.in_ok-said.ensures.said c.tell.ensures.said c.push_reserved.ensures.items;
+    })
 
 -- what the request leaves
 pub returns-clause-state : goal.returns-clause-state
-returns-clause-state c = asks c.self.inside.still c.self.inside.graph.present _ _
-    c.self.inside.members.items _ _ c.args.conn c.args.ask c.in_ok-done.field-0 c.in-Some.done
-    c.self.view_is c.self.invariant c.in-Some.is c.in_ok-done.ensures.reply
+returns-clause-state c =
+    leaves_after c.args.self.now _ _ _
+    (asks _ _ _ _ _ _ c.self.view_is c.args.ask c.args.conn (asked c).all (asked c).asked_is)
+    (answered_left _ _ _ _ _ _ c.self.view_is c.args.ask c.in-Some.done _ (asked c)
+    c.self.invariant.listeners_are c.answer.new.graph.present c.end.new.self c.args.conn _ _
     c.in_ok-done.ensures.state
+    (c.end.ensures.secret ∙ c.tell.ensures.secret ∙ c.in_ok-reserve.ensures.secret)
+    c.in_ok-reserve.ensures.listeners c.tell.ensures.listeners c.end.ensures.listeners)
 
--- its answer can be said
+-- all of it can be said
 pub returns-clause-said : goal.returns-clause-said
-returns-clause-said c = record {
-  own = tt;
-  sayable = answer_sayable _ _ c.args.ask c.in_ok-done.field-0 c.in-Some.done _ _ c.requires.id
-      c.in-Some.is c.in_ok-done.ensures.reply (search rules) c.push_reserved.ensures.items;
-}
+returns-clause-said c =
+    record {
+      own = tt;
+      sayable = then_sayable _ _ _ (taken_sayable c.args.conn _ _ _ _ (asked c).tells.sayable
+          (waited_sayable c.self.inside.next_conn c.args.conn c.self.inside.audience.listeners _
+          c.self.invariant.listeners_are c.in_ok-said.ensures.said) c.tell.ensures.said)
+          (done_sayable_as _ _ c.args.ask c.in-Some.done _ c.requires.id (asked c))
+          c.push_reserved.ensures.items;
+    }

@@ -1,3 +1,5 @@
+use Rattle.std.proofs.Common.{ap, map, ◌∙◌}
+use Rattle.mix_engine.specs.Listeners.{conn_of}
 use Rattle.mix_engine.proofs.OpenedLemmas.{shut_preview, lines_shut, lines_opened}
 use Rattle.mix_engine.proofs.OpenedLemmas.{program_shut, program_opened}
 use Rattle.mix_engine.proofs.OpenedLemmas.{opened_mixing, opened_value, opened_serials}
@@ -29,7 +31,7 @@ invariant_of-result c = opened_mixing c.args.collection.now c.in-Some.graph c.in
     (program_opened c.in-Some.graph.present c.args.collection.now.program
     c.in_ok-graph-2.field-0 c.in-Some-2.graph c.in-Some-2.program c.in-Some-2.is
     c.in_ok-graph-2.ensures.value)
-    c.still_of.result _ c.new.result.items c.still_of.ensures.value c.new.ensures.items
+    c.still_of.result c.new.result.listeners c.still_of.ensures.value c.new.ensures.listeners
 
 pub returns-clause-value : goal.returns-clause-value
 returns-clause-value c = opened_value c.args.collection.now c.in-Some.graph c.in-Some-2.graph
@@ -39,8 +41,9 @@ returns-clause-value c = opened_value c.args.collection.now c.in-Some.graph c.in
     (program_opened c.in-Some.graph.present c.args.collection.now.program
     c.in_ok-graph-2.field-0 c.in-Some-2.graph c.in-Some-2.program c.in-Some-2.is
     c.in_ok-graph-2.ensures.value)
-    c.still_of.result _ c.new.result.items c.still_of.ensures.value c.in_ok-secret.ensures.value
-    c.new.ensures.items c.if-is_some.ensures
+    c.still_of.result c.new.result.secret (map conn_of c.new.result.listeners)
+    c.still_of.ensures.value (c.new.ensures.secret ∙ c.in_ok-secret.ensures.value)
+    (ap (map conn_of) c.new.ensures.listeners) c.if-is_some.ensures
 
 pub returns-clause-serials : goal.returns-clause-serials
 returns-clause-serials c = opened_serials c.args.collection.now c.in-Some.graph
