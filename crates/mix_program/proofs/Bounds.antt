@@ -4,9 +4,10 @@ use Rattle.std.proofs.Common.{List, [], ◌∷◌, length, refl, sym, ap, ◌∙
 use Rattle.std.proofs.Common.{Option, Some, None}
 use Rattle.std.proofs.lemmas.Bool.{lt-ltb, ltb-true, leb-true, leb-false}
 use Rattle.mix_outside.specs.Lines.{Lines, End, Cut, Whole, is_feed, onto, lines_of}
-use Rattle.mix_program.specs.Collections.{most_bytes, collection_in, collection_read, scenes_in}
+use Rattle.mix_model.specs.declared.collection.Line.{Line}
+use Rattle.mix_program.specs.Collections.{most_bytes, collection_in, collection_read, lines_in}
 use Rattle.mix_program.specs.Collections.{Head, head_in, login_in, login_or, last_in, name_in}
-use Rattle.mix_program.specs.Collections.{scene_or_last, where_it, is_format_line, canvas_in}
+use Rattle.mix_program.specs.Collections.{line_in, line_or_last, where_it, is_format_line, canvas_in}
 use Rattle.mix_program.specs.Collections.{rate_in, record_in, secret_in, collection_from, ◌>>=◌}
 use Rattle.mix_program.specs.Within.{within}
 
@@ -70,16 +71,16 @@ last_torn (Some name) End h = absurd (grind arith)
 last_torn (Some name) (Cut line) h = refl
 last_torn (Some name) (Whole line more) h = refl
 
-neither : (name : Option (List ℕ)) → scene_or_last name None None ≡ None
+neither : (line : Option Line) → line_or_last line None None ≡ None
 neither None = refl
-neither (Some name) = refl
+neither (Some line) = refl
 
-scenes_torn : (lines : Lines) → is_torn lines ≡ true → scenes_in lines ≡ None
-scenes_torn End h = refl
-scenes_torn (Cut line) h = refl
-scenes_torn (Whole line more) h =
-    rw (scenes_torn more h, last_torn (name_in (codes "program") line) more h)
-    (neither (name_in (codes "scene") line))
+lines_torn : (canvas : ℕ × ℕ) (lines : Lines) → is_torn lines ≡ true → lines_in canvas lines ≡ None
+lines_torn canvas End h = refl
+lines_torn canvas (Cut line) h = refl
+lines_torn canvas (Whole line more) h =
+    rw (lines_torn canvas more h, last_torn (name_in (codes "program") line) more h)
+    (neither (line_in canvas line))
 
 login_kept : (lines more : Lines) (secret : Option (List ℕ × List ℕ)) → is_torn lines ≡ true →
     is_torn more ≡ true → is_torn (login_or lines secret more).1 ≡ true
@@ -120,10 +121,10 @@ head_torn (Whole a (Whole b (Whole c (Whole d more)))) h = rest_torn (where_it i
     (λ _. rest_torn (record_in canvas d) _ (λ _. h))))
 
 none_torn : (head : Option Head) → is_rest_torn head ≡ true →
-    (head >>= (λ h. scenes_in (login_in h.rest).1 >>= (λ scenes.
-    Some (collection_from h (login_in h.rest).0 scenes)))) ≡ None
+    (head >>= (λ h. lines_in h.canvas (login_in h.rest).1 >>= (λ registry.
+    Some (collection_from h (login_in h.rest).0 registry)))) ≡ None
 none_torn None h = refl
-none_torn (Some head) h = rw (scenes_torn _ (login_torn head.rest h)) refl
+none_torn (Some head) h = rw (lines_torn head.canvas _ (login_torn head.rest h)) refl
 
 collection_torn : (lines : Lines) → is_torn lines ≡ true → collection_in lines ≡ None
 unfolding collection_in

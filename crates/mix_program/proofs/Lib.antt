@@ -1,5 +1,3 @@
--- scenes read so far, and those of the lines that are left
-pub mod Registries
 -- no more than so many bytes are read
 pub mod Bounds
 -- pieces that are written one behind the other

@@ -270,3 +270,8 @@ pub fits_line : (turns number room limit size : ℕ) →
     (number - 1 < turns) × (size < room)
 fits_line turns number room limit size value fits =
     fits_at (nat_lt (number - 1) turns) turns number room limit size refl value fits
+
+-- where two lists together are empty, the second is
+pub second_empty : {A : Type 0} (xs ys : List A) → xs ++ ys ≡ [] → ys ≡ []
+second_empty [] ys none = none
+second_empty (x ∷ xs) ys none = cc

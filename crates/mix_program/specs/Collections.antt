@@ -1,10 +1,11 @@
 -- Which bytes are a collection that is built, and what it says.
 use Rattle.std.specs.Prelude.{ℕ, ℤ, pos, negsuc, ◌+◌, ◌-◌, ◌^◌, Bool, true, false, List, [], ◌∷◌, ◌++◌}
-use Rattle.std.specs.Prelude.{map, length, take, drop, codes, bytes_eq, nat_le, nat_lt}
+use Rattle.std.specs.Prelude.{length, take, drop, codes, bytes_eq, nat_le, nat_lt, ◌==◌}
 use Rattle.std.specs.Prelude.{Option, Some, None, option_and_then, option_map, is_ok, if◌then◌else◌}
 use Rattle.std.specs.List.{list_all}
+use Rattle.std.specs.Option.{option_or}
 use Rattle.mix_base.specs.declared.json.Json.{Json}
-use Rattle.mix_base.specs.Json.{as_list, as_int, as_text}
+use Rattle.mix_base.specs.Json.{Object, as_list, as_int, as_obj, as_text}
 use Rattle.mix_base.specs.Names.{is_name}
 use Rattle.mix_base.specs.declared.rate.Rate.{Rate}
 use Rattle.mix_base.specs.Rates.{is_rate}
@@ -12,12 +13,20 @@ use Rattle.mix_json.specs.Reading.{json_of}
 use Rattle.mix_outside.specs.Lines.{Lines, End, Cut, Whole, lines_of}
 use Rattle.mix_model.specs.declared.collection.Collection.{Collection}
 use Rattle.mix_model.specs.declared.collection.Line.{Line}
-use Rattle.mix_model.specs.declared.collection.Line.TheVariants.{Scene}
+use Rattle.mix_model.specs.declared.collection.Line.TheVariants.{Scene, Input, Item}
+use Rattle.mix_model.specs.declared.kind.Kind.{Kind}
+use Rattle.mix_model.specs.declared.kind.Blend.TheVariants.{Normal}
+use Rattle.mix_model.specs.declared.settings.Settings.{Settings}
+use Rattle.mix_model.specs.declared.settings.Settings.TheVariants.{None as NoSettings}
+use Rattle.mix_model.specs.Texts.{kind_named}
 use Rattle.mix_model.specs.Values.{is_canvas, is_format}
+use Rattle.mix_sources.specs.Checked.{checked}
 use Rattle.mix_engine.specs.Openings.{can_open}
+use Rattle.mix_engine.specs.Places.{default_place}
 use Rattle.hex.specs.Hex.{decode_sized}
 use Rattle.std.specs.Result.{result_ok}
 use Rattle.mix_script.specs.Hexadecimal.{is_lower_digit}
+use Rattle.mix_program.specs.declared.collection.registry.Registry.{Registry}
 
 -- what stands behind these bytes, where the line begins with them
 abbrev pub behind : List ℕ → List ℕ → Option (List ℕ)
@@ -33,7 +42,7 @@ unfoldable pub list_behind : List ℕ → List ℕ → Option (List Json)
 list_behind word line =
     option_and_then list_of (option_and_then (behind (codes " ")) (behind word line))
 
--- exactly one item, and exactly two
+-- exactly one item, exactly two, and exactly three
 abbrev pub only_item : List Json → Option Json
 only_item (x ∷ []) = Some x
 only_item _ = None
@@ -41,6 +50,10 @@ only_item _ = None
 abbrev pub two_items : List Json → Option (Json × Json)
 two_items (x ∷ (y ∷ [])) = Some (x, y)
 two_items _ = None
+
+abbrev pub three_items : List Json → Option (Json × Json × Json)
+three_items (x ∷ (y ∷ (z ∷ []))) = Some (x, y, z)
+three_items _ = None
 
 -- a whole number from 0 to 2^32 - 1
 abbrev pub small : ℤ → Option ℕ
@@ -165,9 +178,51 @@ login_in End = (None, End)
 login_in (Cut line) = (None, Cut line)
 login_in (Whole line more) = login_or (Whole line more) (secret_in line) more
 
--- the names of the scenes in their order, and that of the program's
-abbrev pub Scenes : Type 0
-Scenes = List (List ℕ) × List ℕ
+-- a scene
+unfoldable pub scene_in : List ℕ → Option Line
+scene_in line = option_map Scene (name_in (codes "scene") line)
+
+-- the kind of input whose id this is
+abbrev pub kind_from : Json → Option Kind
+kind_from value = option_and_then kind_named (as_text value)
+
+-- the settings that an object gives a new input of a kind, where none of its keys is refused
+abbrev pub settings_from : ℕ × ℕ → Kind → Object → Option Settings
+settings_from canvas kind given = result_ok (checked kind NoSettings given canvas)
+
+-- an input: its kind, its name, and its settings
+abbrev pub input_from : ℕ × ℕ → Json × Json × Json → Option Line
+input_from canvas items = do
+  kind ← kind_from items.0
+  name ← name_from items.1
+  given ← as_obj items.2
+  settings ← settings_from canvas kind given
+  Some (Input kind name settings)
+
+unfoldable pub input_in : ℕ × ℕ → List ℕ → Option Line
+input_in canvas line = option_and_then (input_from canvas)
+    (option_and_then three_items (list_behind (codes "input") line))
+
+-- an object without a key
+abbrev pub is_bare : Object → Bool
+is_bare given = length given == 0
+
+-- an item: whose it is, what it shows, and no options. So it is enabled and not locked, stands at the
+-- default place, and covers what is below it
+abbrev pub item_from : Json × Json × Json → Option Line
+item_from items = do
+  parent ← name_from items.0
+  child ← name_from items.1
+  options ← option_and_then (where_it is_bare) (as_obj items.2)
+  Some (Item parent child true false default_place Normal)
+
+unfoldable pub item_in : List ℕ → Option Line
+item_in line =
+    option_and_then item_from (option_and_then three_items (list_behind (codes "item") line))
+
+-- what a line says that stands between the head and the program's line
+unfoldable pub line_in : ℕ × ℕ → List ℕ → Option Line
+line_in canvas line = option_or (scene_in line) (option_or (input_in canvas line) (item_in line))
 
 -- nothing is left
 abbrev pub is_end : Lines → Bool
@@ -176,45 +231,45 @@ is_end (Cut line) = false
 is_end (Whole line more) = false
 
 -- the last line names the program's scene, and nothing stands behind it
-abbrev pub last_in : Option (List ℕ) → Lines → Option Scenes
-last_in (Some program) End = Some ([], program)
+abbrev pub last_in : Option (List ℕ) → Lines → Option Registry
+last_in (Some program) End = Some (record { lines = []; program = program })
 last_in _ _ = None
 
-abbrev pub more_scenes : List ℕ → Option Scenes → Option Scenes
-more_scenes name None = None
-more_scenes name (Some scenes) = Some (name ∷ scenes.0, scenes.1)
+abbrev pub more_lines : Line → Option Registry → Option Registry
+more_lines line None = None
+more_lines line (Some registry) = Some (record registry { lines = line ∷ registry.lines })
 
-abbrev pub scene_or_last : Option (List ℕ) → Option Scenes → Option Scenes → Option Scenes
-scene_or_last (Some name) more last = more_scenes name more
-scene_or_last None more last = last
+abbrev pub line_or_last : Option Line → Option Registry → Option Registry → Option Registry
+line_or_last (Some line) more last = more_lines line more
+line_or_last None more last = last
 
--- the scenes of these lines, up to the program's line
-abbrev pub scenes_in : Lines → Option Scenes
-scenes_in End = None
-scenes_in (Cut line) = None
-scenes_in (Whole line more) = scene_or_last (name_in (codes "scene") line) (scenes_in more)
+-- what these lines say in their order, up to the program's line, and the name in that
+abbrev pub lines_in : ℕ × ℕ → Lines → Option Registry
+lines_in canvas End = None
+lines_in canvas (Cut line) = None
+lines_in canvas (Whole line more) = line_or_last (line_in canvas line) (lines_in canvas more)
     (last_in (name_in (codes "program") line) more)
 
 -- the collection of these parts: what no line says has its default
-abbrev pub collection_from : Head → Option (List ℕ × List ℕ) → Scenes → Collection
-collection_from head secret scenes = record {
+abbrev pub collection_from : Head → Option (List ℕ × List ℕ) → Registry → Collection
+collection_from head secret registry = record {
   canvas = head.canvas;
   rate = head.rate;
   i420 = head.i420;
   tracks = head.tracks;
   secret = secret;
-  lines = map Scene scenes.0;
+  lines = registry.lines;
   fade = false;
   ms = 300;
   studio = None;
-  program = scenes.1;
+  program = registry.program;
 }
 
 unfoldable pub collection_in : Lines → Option Collection
 collection_in lines = do
   head ← head_in lines
-  scenes ← scenes_in (login_in head.rest).1
-  Some (collection_from head (login_in head.rest).0 scenes)
+  registry ← lines_in head.canvas (login_in head.rest).1
+  Some (collection_from head (login_in head.rest).0 registry)
 
 -- the bytes of a file of a collection at most
 abbrev pub most_bytes : ℕ

@@ -1,19 +1,18 @@
 -- What the readers of a collection answer, over the lines that were left and are left.
-use Rattle.std.specs.Prelude.{◌≡◌, ℕ, ◌++◌, Bool, codes, true, false, List, [], map}
+use Rattle.std.specs.Prelude.{◌≡◌, ℕ, ◌++◌, Bool, codes, true, false, List, []}
 use Rattle.std.specs.Prelude.{Option, Some, None, option_map, Result, Ok, Err}
 use Rattle.mix_base.specs.declared.rate.Rate.{Rate}
 use Rattle.mix_outside.specs.Lines.{Lines, Whole}
 use Rattle.mix_model.specs.declared.collection.Collection.{Collection}
 use Rattle.mix_model.specs.declared.collection.Line.{Line}
-use Rattle.mix_model.specs.declared.collection.Line.TheVariants.{Scene}
-use Rattle.mix_program.specs.Collections.{Scenes, next, head_in, login_in, scenes_in, collection_in}
+use Rattle.mix_program.specs.Collections.{next, head_in, login_in, lines_in, collection_in}
 use Rattle.mix_program.specs.Collections.{is_end, name_in, last_in}
 use Rattle.mix_program.specs.Collections.{Head as HeadLines}
 use Rattle.mix_program.specs.declared.collection.Fault.{Fault}
 use Rattle.mix_program.specs.declared.collection.Opened.{Opened}
 use Rattle.mix_program.specs.declared.collection.Opened.TheVariants as o
 use Rattle.mix_program.specs.declared.collection.head.Head.{Head}
-use Rattle.mix_program.specs.declared.collection.scenes.Registry.{Registry}
+use Rattle.mix_program.specs.declared.collection.registry.Registry.{Registry}
 
 -- whether a whole line stood first; then it is taken
 abbrev pub Takes : Result Bool Fault → List ℕ → Lines → Lines → Type 0
@@ -39,20 +38,16 @@ Heads (Err fault) old new = Unit {0}
 -- the login is read, and the first line behind it
 abbrev pub LogsIn : Result (Option (Option (List ℕ × List ℕ))) Fault → List ℕ → Lines → Lines → Type 0
 LogsIn (Ok (Some secret)) line old new = login_in old ≡ (secret, Whole line new)
-LogsIn (Ok None) line old new = scenes_in (login_in old).1 ≡ None
+LogsIn (Ok None) line old new = next (login_in old).1 ≡ None
 LogsIn (Err fault) line old new = Unit {0}
-
--- the scenes as lines of a collection, and the name of the program's
-abbrev pub registry_of : Scenes → Registry
-registry_of scenes = record { lines = map Scene scenes.0; program = scenes.1 }
 
 -- lines of a collection, and behind them those of the registry
 abbrev pub behind_lines : List Line → Registry → Registry
 behind_lines lines registry = record registry { lines = lines ++ registry.lines }
 
-abbrev pub Registers : Result (Option Registry) Fault → Lines → Type 0
-Registers (Ok registry) lines = option_map registry_of (scenes_in lines) ≡ registry
-Registers (Err fault) lines = Unit {0}
+abbrev pub Registers : ℕ × ℕ → Result (Option Registry) Fault → Lines → Type 0
+Registers canvas (Ok registry) lines = lines_in canvas lines ≡ registry
+Registers canvas (Err fault) lines = Unit {0}
 
 -- what reading gave is what the bytes write
 abbrev pub Opens : Opened → Option Collection → Type 0
@@ -76,7 +71,7 @@ Drains (Err fault) left = Unit {0}
 
 -- the name of the program's scene, where the line names it and nothing is left
 abbrev pub Ends : Result (Option (List ℕ)) Fault → List ℕ → Lines → Type 0
-Ends (Ok program) line left = option_map (λ scenes. scenes.1)
+Ends (Ok program) line left = option_map (λ registry. registry.program)
     (last_in (name_in (codes "program") line) left) ≡ program
 Ends (Err fault) line left = Unit {0}
 

@@ -7,8 +7,12 @@ mod feed;
 mod fields;
 mod head;
 mod lines;
+mod login;
 mod reading;
-mod scenes;
+mod registry;
+mod sources;
+#[cfg(test)]
+mod tests;
 
 pub use reading::read_collection;
 

@@ -1,10 +1,10 @@
 //! The JSON lists behind the words of a line.
 ghost use Rattle.std.specs.Prelude.{◌≡◌, IfOk, option_map, option_and_then};
-ghost use Rattle.mix_base.specs.Json.{as_list, as_text};
+ghost use Rattle.mix_base.specs.Json.{as_list, as_obj, as_text};
 ghost use Rattle.mix_program.specs.Collections.{behind, list_behind, list_of, number_in};
 ghost use Rattle.mix_program.specs.Collections.{two_items, only_item, numbers_in};
 
-use mix_base::{Json, JsonList, NoMemory, Text};
+use mix_base::{Json, JsonList, JsonObj, NoMemory, Text};
 use mix_json::JsonFault;
 use std::alloc::Global;
 
@@ -58,6 +58,16 @@ pub fn text_in(value: &Json) -> Option<&Text>
 {
     match value {
         Json::Text(text) => Some(text),
+        _ => None,
+    }
+}
+
+/// An object.
+pub fn object_in(value: &Json) -> Option<&JsonObj>
+    ensures value { option_map (λ object. object.now) result ≡ as_obj value.now }
+{
+    match value {
+        Json::Obj(object) => Some(object),
         _ => None,
     }
 }

@@ -1,5 +1,6 @@
 //! The four lines at the head of a collection.
-ghost use Rattle.std.specs.Prelude.{◌≡◌, ◌≢◌, ◌≤◌, ◌<◌, Err};
+ghost use Rattle.std.specs.Prelude.{◌≡◌, ◌≢◌, ◌≤◌, ◌<◌, Err, IfOk, IfSome, IsTrue};
+ghost use Rattle.mix_model.specs.Values.{is_canvas};
 ghost use Rattle.mix_outside.specs.Faults.{Rose};
 ghost use Rattle.mix_program.specs.Collections.{is_format_line};
 ghost use Rattle.mix_program.specs.Read.{Heads};
@@ -39,6 +40,7 @@ pub fn read_head<C: Source>(
 ) -> Result<Option<Head>, Fault>
     ensures head { C.Tells → Heads result
         (lines_left feed.old (C.left source.old)) (lines_left feed.new (C.left source.new)) }
+    ensures canvas { IfOk result (λ head. IfSome head (λ h. IsTrue (is_canvas h.canvas))) }
     ensures later { C.faults source.old ≤ C.faults source.new }
     ensures cause { result ≡ Err Fault.ReadFault →
         Rose (C.faults source.old) (C.faults source.new) }

@@ -1,5 +1,5 @@
 //! What single lines of a collection say.
-ghost use Rattle.std.specs.Prelude.{◌≡◌, ◌<◌, true, IfOk, option_and_then, option_map};
+ghost use Rattle.std.specs.Prelude.{◌≡◌, ◌<◌, true, IfOk, IfSome, IsTrue, option_and_then};
 ghost use Rattle.std.specs.List.{list_all};
 ghost use Rattle.mix_base.specs.Rates.{is_rate};
 ghost use Rattle.mix_model.specs.Values.{is_canvas, is_format};
@@ -49,6 +49,7 @@ fn is_format(canvas: (u32, u32), i420: bool, tracks: u32) -> bool
 #[tactic(auto, unfolding(crate::specs::Collections::canvas_in))]
 pub fn canvas_in(alloc: Global, line: &[u8]) -> Result<Option<(u32, u32)>, NoMemory>
     ensures value { IfOk result (λ canvas. canvas ≡ canvas_in line.now) }
+    ensures valid { IfOk result (λ canvas. IfSome canvas (λ size. IsTrue (is_canvas size))) }
 {
     let Some(items) = list_behind(alloc, b"canvas", line)? else {
         return Ok(None);
@@ -168,11 +169,18 @@ pub fn secret_in(alloc: Global, line: &[u8]) -> Result<Option<(Text, Bytes32)>, 
     }
 }
 
-fn name_from(items: &[Json]) -> Option<Name>
+/// The name that a text is.
+pub fn name_from(value: &Json) -> Option<Name>
+    ensures value { result ≡ name_from value.now }
+{
+    Name::read(text_in(value)?.bytes()).ok()
+}
+
+fn only_name(items: &[Json]) -> Option<Name>
     ensures value { result ≡ option_and_then name_from (only_item items.now) }
 {
     match items {
-        [value] => Name::read(text_in(value)?.bytes()).ok(),
+        [value] => name_from(value),
         _ => None,
     }
 }
@@ -183,7 +191,7 @@ pub fn name_in(alloc: Global, word: &[u8], line: &[u8]) -> Result<Option<Name>, 
     ensures value { IfOk result (λ name. name ≡ name_in word.now line.now) }
 {
     match list_behind(alloc, word, line)? {
-        Some(items) => Ok(name_from(items.as_slice())),
+        Some(items) => Ok(only_name(items.as_slice())),
         None => Ok(None),
     }
 }

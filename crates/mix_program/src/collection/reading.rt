@@ -7,7 +7,8 @@ ghost use Rattle.mix_program.specs.Within.{lines_left};
 
 use crate::collection::feed::Feed;
 use crate::collection::head::read_head;
-use crate::collection::scenes::{read_login, read_scenes};
+use crate::collection::login::read_login;
+use crate::collection::registry::read_registry;
 use crate::collection::{Fault, Opened};
 use mix_model::Collection;
 use mix_outside::Source;
@@ -33,7 +34,7 @@ fn read_lines<C: Source>(
     let Some(secret) = read_login(alloc, feed, source)? else {
         return Ok(None);
     };
-    let Some(scenes) = read_scenes(alloc, feed, source)? else {
+    let Some(registry) = read_registry(alloc, head.canvas, feed, source)? else {
         return Ok(None);
     };
     Ok(Some(Collection {
@@ -42,11 +43,11 @@ fn read_lines<C: Source>(
         i420: head.i420,
         tracks: head.tracks,
         secret,
-        lines: scenes.lines,
+        lines: registry.lines,
         fade: false,
         ms: 300,
         studio: None,
-        program: scenes.program,
+        program: registry.program,
     }))
 }
 

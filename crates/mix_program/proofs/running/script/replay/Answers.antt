@@ -2,6 +2,7 @@ use Rattle.std.proofs.Common.{◌≡◌, ◌<◌, ◌≤◌, ◌+◌, ◌-◌, a
 use Rattle.std.proofs.lemmas.Grind.{common_steps}
 use Rattle.std.proofs.lemmas.Bool.Decides.{nat_tests}
 use Rattle.mix_program.proofs.Runs.{whole_ends, whole_goes, past_ends, cut_ends, limit_is, fits_line}
+use Rattle.mix_program.proofs.Runs.{second_empty}
 use Rattle.mix_program.proofs.running.script.replay.Goals as goal
 
 pub returns-in-Some-clause-ends : goal.returns-in-Some-clause-ends
@@ -16,6 +17,10 @@ returns-in-Last-clause-ends g c = λ s k. cut_ends _ _ _ _ c.args.limits _ _ _ _
     (c.lines.invariant.goes s k) _ _ _ (c.in-Last.ensures.lines s)
     (grind (arith, common_steps, nat_tests)) c.in-Last.ensures.fits c.lines.invariant.number
     (c.refuse.ensures.ends k)
+
+pub returns-then-is_empty-clause-drained : goal.returns-then-is_empty-clause-drained
+returns-then-is_empty-clause-drained g c = λ s done. second_empty _ _
+    (c.in-Last.ensures.end s refl)
 
 pub returns-in-Past-clause-ends : goal.returns-in-Past-clause-ends
 returns-in-Past-clause-ends g c = λ s k. past_ends _ _ _ _ c.args.limits _ _ _ _ _

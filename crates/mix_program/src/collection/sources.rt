@@ -1,0 +1,136 @@
+//! What the lines of scenes, inputs and items say.
+ghost use Rattle.std.specs.Prelude.{◌≡◌, IfOk, IfSome, IsTrue, option_and_then};
+ghost use Rattle.mix_model.specs.Rows.{is_input};
+ghost use Rattle.mix_model.specs.Values.{is_canvas};
+ghost use Rattle.mix_program.specs.Collections.{three_items, kind_from, settings_from};
+ghost use Rattle.mix_program.specs.Collections.{input_from, item_from};
+ghost use Rattle.mix_program.specs.Collections.{scene_in, input_in, item_in, line_in};
+
+use crate::collection::fields::{list_behind, object_in, text_in};
+use crate::collection::lines::{name_from, name_in};
+use mix_base::{Json, JsonObj, NoMemory};
+use mix_engine::default_place;
+use mix_model::{Blend, Kind, Line, Settings};
+use mix_sources::{SettingFault, check_settings, kind_of};
+use std::alloc::Global;
+
+#[tactic(auto, unfolding(crate::specs::Collections::scene_in))]
+fn scene_in(alloc: Global, line: &[u8]) -> Result<Option<Line>, NoMemory>
+    ensures value { IfOk result (λ scene. scene ≡ scene_in line.now) }
+{
+    match name_in(alloc, b"scene", line)? {
+        Some(name) => Ok(Some(Line::Scene { name })),
+        None => Ok(None),
+    }
+}
+
+/// The kind of input whose id this is.
+fn kind_from(value: &Json) -> Option<Kind>
+    ensures value { result ≡ kind_from value.now }
+    ensures input { IfSome result (λ kind. IsTrue (is_input kind)) }
+{
+    kind_of(text_in(value)?)
+}
+
+/// The settings that an object gives a new input of a kind, where none of its keys is refused.
+fn settings_from(
+    alloc: Global,
+    canvas: (u32, u32),
+    kind: Kind,
+    given: &JsonObj,
+) -> Result<Option<Settings>, NoMemory>
+    requires canvas { IsTrue (is_canvas canvas) }
+    requires input { IsTrue (is_input kind) }
+    ensures value { IfOk result (λ settings. settings ≡ settings_from canvas kind given.now) }
+{
+    match check_settings(alloc, kind, &Settings::None, given, canvas) {
+        Ok(settings) => Ok(Some(settings)),
+        Err(SettingFault::Bad(_)) => Ok(None),
+        Err(SettingFault::NoMemory) => Err(NoMemory),
+    }
+}
+
+fn input_from(alloc: Global, canvas: (u32, u32), items: &[Json]) -> Result<Option<Line>, NoMemory>
+    requires canvas { IsTrue (is_canvas canvas) }
+    ensures value { IfOk result
+        (λ input. input ≡ option_and_then (input_from canvas) (three_items items.now)) }
+{
+    let [id, name, given] = items else {
+        return Ok(None);
+    };
+    let Some(kind) = kind_from(id) else {
+        return Ok(None);
+    };
+    let Some(name) = name_from(name) else {
+        return Ok(None);
+    };
+    let Some(given) = object_in(given) else {
+        return Ok(None);
+    };
+    match settings_from(alloc, canvas, kind, given)? {
+        Some(settings) => Ok(Some(Line::Input {
+            kind,
+            name,
+            settings,
+        })),
+        None => Ok(None),
+    }
+}
+
+#[tactic(auto, unfolding(crate::specs::Collections::input_in))]
+fn input_in(alloc: Global, canvas: (u32, u32), line: &[u8]) -> Result<Option<Line>, NoMemory>
+    requires canvas { IsTrue (is_canvas canvas) }
+    ensures value { IfOk result (λ input. input ≡ input_in canvas line.now) }
+{
+    match list_behind(alloc, b"input", line)? {
+        Some(items) => input_from(alloc, canvas, items.as_slice()),
+        None => Ok(None),
+    }
+}
+
+fn item_from(items: &[Json]) -> Option<Line>
+    ensures value { result ≡ option_and_then item_from (three_items items.now) }
+{
+    let [parent, child, options] = items else {
+        return None;
+    };
+    let parent = name_from(parent)?;
+    let child = name_from(child)?;
+    if object_in(options)?.len() != 0 {
+        return None;
+    }
+    Some(Line::Item {
+        parent,
+        child,
+        enabled: true,
+        locked: false,
+        place: default_place(),
+        blend: Blend::Normal,
+    })
+}
+
+#[tactic(auto, unfolding(crate::specs::Collections::item_in))]
+fn item_in(alloc: Global, line: &[u8]) -> Result<Option<Line>, NoMemory>
+    ensures value { IfOk result (λ item. item ≡ item_in line.now) }
+{
+    match list_behind(alloc, b"item", line)? {
+        Some(items) => Ok(item_from(items.as_slice())),
+        None => Ok(None),
+    }
+}
+
+/// What a line says that stands between the head and the program's line: a scene, an input whose
+/// settings are as large as the canvas where nothing else is said, or an item.
+#[tactic(auto, unfolding(crate::specs::Collections::line_in))]
+pub fn line_in(alloc: Global, canvas: (u32, u32), line: &[u8]) -> Result<Option<Line>, NoMemory>
+    requires canvas { IsTrue (is_canvas canvas) }
+    ensures value { IfOk result (λ found. found ≡ line_in canvas line.now) }
+{
+    if let Some(scene) = scene_in(alloc, line)? {
+        return Ok(Some(scene));
+    }
+    if let Some(input) = input_in(alloc, canvas, line)? {
+        return Ok(Some(input));
+    }
+    item_in(alloc, line)
+}
