@@ -1,5 +1,6 @@
 //! Whole runs, from words and bytes to bytes and a status.
 mod conversation;
+mod events;
 mod faults;
 mod refused;
 mod requests;

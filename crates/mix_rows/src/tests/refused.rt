@@ -33,7 +33,7 @@ fn faulty_words_give_nothing(rt: HostRuntime) -> Result<(), Fail> {
 
 /// Lines in the place of one line of the first collection, counted from 1, that make it one that
 /// isn't built.
-static LINES: [(usize, &str); 52] = [
+static LINES: [(usize, &str); 53] = [
     (1, ""),
     (1, "mixer-collection 2\n"),
     (1, "mixer-collection 1 \n"),
@@ -75,6 +75,10 @@ static LINES: [(usize, &str); 52] = [
     (5, "scene [\"B\"]\n"),
     (5, "scene [\"A\"]\nscene [\"A\"]\n"),
     (5, "scene [\"A\"]\ninput [\"color_source_v3\",\"red\",{}]\n"),
+    (
+        5,
+        "scene [\"A\"]\ninput [\"color_source_v3\",\"red\",{}]\nitem [\"A\",\"red\",{}]\n",
+    ),
     (5, "scene [\"A\"]\ngroup [\"G\",\"A\",{}]\n"),
     (5, "scene [\"A\"]\ntransition [\"Cut\",300]\n"),
     (5, "scene [\"A\"]\nstudio [\"A\"]\n"),

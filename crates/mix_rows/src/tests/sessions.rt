@@ -2,7 +2,7 @@
 use crate::tests::running::{FIRST, expect, expect_lines, replay_of, text};
 use std::test::Fail;
 
-static CLOSED: [&str; 16] = [
+static CLOSED: [&str; 18] = [
     "+",
     r#"<c1 {"op":6,"d":{"requestType":"GetSceneList","requestId":"1"}}"#,
     "+",
@@ -19,9 +19,11 @@ static CLOSED: [&str; 16] = [
     "?c6",
     "-c6",
     "?c7",
+    "<c6 [",
+    r#"<c8 {"op":1,"d":{"rpcVersion":1}}"#,
 ];
 
-static CLOSES: [&str; 16] = [
+static CLOSES: [&str; 18] = [
     r#">c1 {"d":{"obsWebSocketVersion":"5.0.0","rpcVersion":1},"op":0}"#,
     "!c1 4007",
     r#">c2 {"d":{"obsWebSocketVersion":"5.0.0","rpcVersion":1},"op":0}"#,
@@ -38,6 +40,8 @@ static CLOSES: [&str; 16] = [
     "!c6 gone",
     "!c6 gone",
     "!c7 gone",
+    "!c6 gone",
+    "!c8 gone",
 ];
 
 #[test]
@@ -49,7 +53,7 @@ fn close_codes(rt: HostRuntime) -> Result<(), Fail> {
 
 static SPOKEN: [&str; 9] = [
     "+ 00000000000000000000000000000000000000000000000000000000000000ff",
-    r#"<c1 {"op":1,"d":{"rpcVersion":1,"eventSubscriptions":0}}"#,
+    r#"<c1 {"op":1,"d":{"rpcVersion":1}}"#,
     r#"<c1 {"op":3,"d":{}}"#,
     r#"<c1 {"op":3,"d":{"eventSubscriptions":0}}"#,
     "?c1",
@@ -117,7 +121,7 @@ fn login(rt: HostRuntime) -> Result<(), Fail> {
     Ok(())
 }
 
-/// Sixty-four connections are told Hello, and one more isn't built yet.
+/// Sixty-four connections are told Hello, and one more finds no room; its number isn't used up.
 #[test]
 fn sixty_five_connections(rt: HostRuntime) -> Result<(), Fail> {
     let alloc = rt.alloc();
@@ -125,14 +129,14 @@ fn sixty_five_connections(rt: HostRuntime) -> Result<(), Fail> {
     let mut script = Vec::new(alloc);
     let mut answers = Vec::new(alloc);
     for number in 1u32..66 {
+        let answer = format!(in alloc;
+            ">c{number} {{\"d\":{{\"obsWebSocketVersion\":\"5.0.0\",\"rpcVersion\":1}},\"op\":0}}\n"
+        )?;
+        if number == 65 {
+            script.extend_from_slice(b"+\n-c64\n")?;
+            answers.extend_from_slice(b"+ full\n-c64\n")?;
+        }
         script.extend_from_slice(b"+\n")?;
-        let answer = if number < 65 {
-            format!(in alloc;
-                ">c{number} {{\"d\":{{\"obsWebSocketVersion\":\"5.0.0\",\"rpcVersion\":1}},\"op\":0}}\n"
-            )?
-        } else {
-            format!(in alloc; "not built: line {number}\n")?
-        };
         answers.extend_from_slice(answer.as_bytes())?;
     }
     expect(
@@ -140,7 +144,7 @@ fn sixty_five_connections(rt: HostRuntime) -> Result<(), Fail> {
         alloc,
         replay_of(collection.as_slice(), script.as_slice()),
         answers.as_slice(),
-        9,
+        0,
         "connections",
     )?;
     Ok(())
