@@ -62,6 +62,13 @@ impl Graph {
         self.sources.next_serial()
     }
 
+    /// How many frames are in flight.
+    pub fn frames(&self) -> usize
+        ensures reply { result ≡ length self.now.present.frames }
+    {
+        self.sources.frames_in_flight()
+    }
+
     /// How many rows die.
     pub fn dying(&self) -> u32
         ensures reply { result ≡ length self.now.present.dying }

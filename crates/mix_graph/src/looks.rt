@@ -66,6 +66,12 @@ impl Sources {
         Serial(self.next_serial)
     }
 
+    pub fn frames_in_flight(&self) -> usize
+        ensures { result ≡ length self.now.frames }
+    {
+        self.frames.len()
+    }
+
     pub fn dying(&self) -> u32
         ensures { result ≡ length self.now.dying }
     {

@@ -120,6 +120,9 @@ fn holds_watches_and_frames_are_so_many(rt: HostRuntime) {
     hold(&rt, &mut graph, Serial(1), Err(full));
     watch(&rt, &mut graph, Serial(1), Err(full));
     frame(&rt, &mut graph, 4, Err(GraphFault::TooMany { limit: 4 }));
+    assert!(rt; graph.frames() == 4);
     end_frame(&rt, &mut graph, 2);
+    assert!(rt; graph.frames() == 3);
     frame(&rt, &mut graph, 4, Ok(()));
+    assert!(rt; graph.frames() == 4);
 }
