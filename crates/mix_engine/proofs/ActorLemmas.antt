@@ -8,6 +8,7 @@ use Rattle.mix_model.specs.declared.action.Action.{Action}
 use Rattle.mix_model.specs.declared.action.Action.TheVariants.{Arrive, Hear, Poll, BatchNext, Leave}
 use Rattle.mix_model.specs.declared.action.Action.TheVariants.{VideoTick, AudioTick, FrameDone}
 use Rattle.mix_model.specs.declared.action.Action.TheVariants.{Destroy}
+use Rattle.mix_model.specs.Studio.{has_room}
 use Rattle.mix_session.specs.declared.heard.Heard.{Heard}
 use Rattle.mix_session.specs.declared.heard.Heard.TheVariants.{Say, Ask, Batch, Close}
 use Rattle.mix_session.specs.Hear.{hear}
@@ -18,7 +19,8 @@ use Rattle.mix_engine.specs.Mixer.{Mixer, Connection}
 use Rattle.mix_engine.specs.Outcomes.{Outcome, only, joins, closes}
 use Rattle.mix_engine.specs.Queues.{IsOfActor}
 use Rattle.mix_engine.specs.Requests.{Requested, requested, answers}
-use Rattle.mix_engine.specs.Step.{acting, heard_from, outcome}
+use Rattle.mix_engine.specs.Step.{acting, heard_from, outcome, takes_frame, gives_back}
+use Rattle.mix_engine.specs.Step.{is_in_flight}
 
 -- an outcome changes no connection but the one that acts
 abbrev IsActors : Outcome → Type 0
@@ -55,7 +57,11 @@ outcome_acts s (Hear conn message) = acting_acts s conn (conn_at conn s.conns) _
 outcome_acts s (Poll conn) = acting_acts s conn (conn_at conn s.conns) _ (λ c. tt)
 outcome_acts s (BatchNext conn) = tt
 outcome_acts s (Leave conn) = acting_acts s conn (conn_at conn s.conns) _ (λ c. itself conn)
-outcome_acts s VideoTick = tt
+outcome_acts s VideoTick = elim (has_room s.studio)
+    as (λ b. IsActors (cond b (takes_frame s) (only s own.NoFrame [])))
+    [ true ↦ tt | false ↦ tt ]
 outcome_acts s AudioTick = tt
-outcome_acts s (FrameDone number) = tt
+outcome_acts s (FrameDone number) = elim (is_in_flight number s.studio.graph)
+    as (λ b. IsActors (cond b (gives_back s number) (only s own.NoSuchFrame [])))
+    [ true ↦ tt | false ↦ tt ]
 outcome_acts s Destroy = tt

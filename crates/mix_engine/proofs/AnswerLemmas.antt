@@ -10,8 +10,8 @@ use Rattle.mix_base.specs.Json.{Object, has_frac, list_has_frac, obj_has_frac, a
 use Rattle.mix_base.specs.Json.{present}
 use Rattle.mix_base.specs.Names.{name_fault}
 use Rattle.mix_base.specs.Uuids.{uuid_of}
-use Rattle.mix_json.specs.Fields.{◌>>=◌, need, need_kept, need_obj, need_text, or_status, typed}
-use Rattle.mix_json.specs.Fields.{wrong_type}
+use Rattle.mix_json.specs.Fields.{◌>>=◌, need, need_kept, need_obj, need_text, opt_in}
+use Rattle.mix_json.specs.Fields.{or_status, refused_if, typed, wrong_type}
 use Rattle.mix_json.specs.Trees.{obj_of, put_fields, with_field}
 use Rattle.mix_json.proofs.TreeLemmas.{obj_whole, list_whole, put_whole}
 use Rattle.mix_model.specs.declared.body.Body.{Body}
@@ -23,10 +23,12 @@ use Rattle.mix_events.specs.Sayable.{IsWholeAnswer}
 use Rattle.mix_events.specs.Statuses.{status_name}
 use Rattle.mix_engine.specs.CustomEvents.{custom_data}
 use Rattle.mix_engine.specs.Effects.{answer_of, needed_fields, name_or, new_name}
+use Rattle.mix_engine.specs.InputRequests.{made_fields}
 use Rattle.mix_engine.specs.SceneRequests.{named_scene, scene_or_null, entry_fields, scene_entry}
 use Rattle.mix_engine.specs.SceneRequests.{scene_entries, preview_fields, program_fields}
-use Rattle.mix_engine.specs.SceneRequests.{scenes_fields, scene_list, creation_fields, name_at}
+use Rattle.mix_engine.specs.SceneRequests.{scenes_fields, scene_list, creation_fields}
 use Rattle.mix_engine.specs.SceneRequests.{scene_name}
+use Rattle.mix_engine.specs.Names.{name_at}
 
 -- ---- whole numbers
 
@@ -92,7 +94,7 @@ program_whole g x =
 scenes_whole : (g : GraphState) → AreWhole (scenes_fields g)
 scenes_whole g = (list_whole (scene_entries g 0 g.scenes) (entries_whole g 0 g.scenes), tt)
 
--- the list of scenes, and what is answered to who made one
+-- the list of scenes, and what is answered to who made one, or made an input
 pub scene_list_whole : (s : StudioState) → IsWholeAnswer (answer_of (scene_list s))
 scene_list_whole s = object_whole (scene_list s)
     (both_whole (preview_fields s.graph) _ (preview_whole s.graph)
@@ -101,6 +103,10 @@ scene_list_whole s = object_whole (scene_list s)
 
 pub creation_whole : (serial : ℕ) → IsWholeAnswer (answer_of (creation_fields serial))
 creation_whole serial = object_whole (creation_fields serial) (text_whole (uuid_of serial), tt)
+
+pub input_whole : (serial item : ℕ) → IsWholeAnswer (answer_of (made_fields serial item))
+input_whole serial item =
+    object_whole (made_fields serial item) (text_whole (uuid_of serial), (index_whole item, tt))
 
 -- ---- statuses that have names
 
@@ -114,15 +120,27 @@ Named (Ok x) = Unit {0}
 Named (Err status) = HasName status
 
 -- so has that of what is read in order
-then_named : {A B : Type 0} (r : Result A ℕ) (rest : A → Result B ℕ) → Named r →
+pub then_named : {A B : Type 0} (r : Result A ℕ) (rest : A → Result B ℕ) → Named r →
     ((x : A) → Named (rest x)) → Named (r >>= rest)
 then_named (Ok x) rest named each = each x
 then_named (Err status) rest named each = named
 
-or_named : {A : Type 0} (status : ℕ) (x : Option A) → HasName status →
+pub or_named : {A : Type 0} (status : ℕ) (x : Option A) → HasName status →
     Named (or_status status x)
 or_named status None named = named
 or_named status (Some x) named = tt
+
+-- or that of what is left after a test
+pub refused_named : (refused : Bool) (status : ℕ) → HasName status →
+    Named (refused_if refused status)
+refused_named true status named = named
+refused_named false status named = tt
+
+-- what holds of both holds of what a test takes of them
+pub either : {B : Type 0} (P : B → Type 0) (test : Bool) (x y : B) → P x → P y →
+    P (if test then x else y)
+either P true x y first second = first
+either P false x y first second = second
 
 name_or_named : (bytes : List ℕ) (fault : Option NameFault) → Named (name_or bytes fault)
 unfolding status_name
@@ -132,19 +150,27 @@ name_or_named bytes (Some Long) = refl
 name_or_named bytes (Some NotUtf8) = refl
 name_or_named bytes (Some Control) = refl
 
-need_named : {A : Type 0} (as_type : Json → Option A) (key : List ℕ) (fields : Object) →
+pub need_named : {A : Type 0} (as_type : Json → Option A) (key : List ℕ) (fields : Object) →
     Named (need as_type key fields)
 unfolding status_name
 need_named as_type key fields = then_named (or_status 300 (present key fields)) (typed as_type)
     (or_named 300 (present key fields) refl) (λ value. or_named 401 (as_type value) refl)
 
-new_name_named : (key : List ℕ) (fields : Object) → Named (new_name key fields)
+-- that of a field that may be missing
+pub opt_named : {A : Type 0} (as_type : Json → Option A) (value : Option Json) →
+    Named (opt_in as_type value)
+unfolding status_name
+opt_named as_type None = tt
+opt_named as_type (Some value) = then_named (typed as_type value) (λ x. Ok (Some x))
+    (or_named 401 (as_type value) refl) (λ x. tt)
+
+pub new_name_named : (key : List ℕ) (fields : Object) → Named (new_name key fields)
 unfolding new_name
 new_name_named key fields = then_named (need_text key fields)
     (λ bytes. name_or bytes (name_fault bytes)) (need_named as_text key fields)
     (λ bytes. name_or_named bytes (name_fault bytes))
 
-needed_named : (body : Body) → Named (needed_fields body)
+pub needed_named : (body : Body) → Named (needed_fields body)
 unfolding status_name
 needed_named Absent = refl
 needed_named (Fields fields) = tt
@@ -155,16 +181,11 @@ pub scene_name_named : (body : Body) → Named (scene_name body)
 scene_name_named body = then_named (needed_fields body) (new_name (codes "sceneName"))
     (needed_named body) (new_name_named (codes "sceneName"))
 
-whole_named : (fraction : Bool) (kept : Object) →
-    Named {A = Object} (if fraction then Err wrong_type else Ok kept)
-unfolding status_name
-whole_named true kept = refl
-whole_named false kept = tt
-
 kept_named : (key : List ℕ) (fields : Object) → Named (need_kept key fields)
+unfolding status_name
 kept_named key fields = then_named (need_obj key fields)
     (λ kept. if obj_has_frac kept then Err wrong_type else Ok kept) (need_named as_obj key fields)
-    (λ kept. whole_named (obj_has_frac kept) kept)
+    (λ kept. either (Named {A = Object}) (obj_has_frac kept) (Err wrong_type) (Ok kept) refl tt)
 
 -- and that of data which no event can have
 pub custom_data_named : (body : Body) → Named (custom_data body)

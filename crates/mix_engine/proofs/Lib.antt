@@ -18,8 +18,24 @@ pub mod SceneLemmas
 pub mod CauseLemmas
 -- what holds of the scenes
 pub mod SceneryLemmas
+-- the scene that a name finds
+pub mod SoughtLemmas
+-- what an edit leaves of the studio
+pub mod EditLemmas
+-- a change of the program
+pub mod ProgramLemmas
+-- a new input with its item
+pub mod InputLemmas
+-- an input that is asked for
+pub mod InputAsked
+-- an input that is made, or is refused
+pub mod InputEffects
 -- answers without a fraction, and statuses that have names
 pub mod AnswerLemmas
+-- settings that are refused
+pub mod SettingLemmas
+-- refusals of requests on the program and on inputs
+pub mod RefusalLemmas
 -- what every request keeps
 pub mod RequestLemmas
 -- what was heard can be said again
@@ -28,8 +44,20 @@ pub mod HeardLemmas
 pub mod LineLemmas
 -- the open connections with what waits for each
 pub mod ListenerLemmas
--- actions of connections over the parts that the code keeps
+-- what actions of connections come to
+pub mod ComingLemmas
+-- the parts that the code keeps, after actions of connections
 pub mod MixingLemmas
+-- a request over these parts
+pub mod AskingLemmas
+-- what a shot shows
+pub mod ShotLemmas
+-- taking a frame and giving one back
+pub mod FrameLemmas
+-- what a frame leaves, and one that is given back
+pub mod TickLemmas
+-- sources of lines that were added
+pub mod FreshLemmas
 -- opening a collection
 pub mod OpeningLemmas
 -- what waits for a connection is its queue

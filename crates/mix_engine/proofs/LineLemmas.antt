@@ -1,20 +1,32 @@
 -- What is done about a request is what its line in the table says.
-use Rattle.std.proofs.Common.{◌≡◌, ◌∙◌, ℕ, List, [], sym, ap, subst}
+use Rattle.std.proofs.Common.{◌≡◌, ◌∙◌, ℕ, List, [], true, false, refl, sym, ap, subst}
 use Rattle.std.proofs.Common.{Option, Some, None, Result}
 use Rattle.std.specs.Prelude.{unwrap_or}
 use Rattle.mix_base.specs.declared.json.Json.{Json}
 use Rattle.mix_model.specs.declared.ask.Ask.{Ask}
 use Rattle.mix_model.specs.declared.ask.Done.{Done}
+use Rattle.mix_model.specs.declared.body.Body.{Body}
 use Rattle.mix_model.specs.declared.event.Twin.{Twin}
 use Rattle.mix_model.specs.declared.notes.Notes.{Notes}
 use Rattle.mix_model.specs.State.{StudioState}
 use Rattle.mix_engine.specs.declared.request_type.RequestType.{RequestType}
+use Rattle.mix_engine.specs.declared.request_type.RequestType.TheVariants.{SetCurrentProgramScene}
 use Rattle.mix_engine.specs.Effects.{Effect}
+use Rattle.mix_engine.specs.ProgramRequests.{set_current_program_scene}
 use Rattle.mix_engine.specs.Requests.{requested, requested_or, effect_of, type_of, done_with}
 use Rattle.mix_engine.specs.Requests.{answer_in, studio_in}
 use Rattle.mix_engine.specs.Requesting.{done_in, studio_after}
 use Rattle.mix_engine.specs.Telling.{TellsEffect, TellsRequested}
 use Rattle.mix_engine.proofs.TellingLemmas.{effect_tells}
+
+-- the program has a line where it changes by a cut, and none where it changes by fades
+pub cut_line : (s : StudioState) (notes : Notes) (body : Body) → s.program.fades ≡ false →
+    effect_of s notes body SetCurrentProgramScene ≡ Some (set_current_program_scene s notes body)
+cut_line s notes body cut = rw cut refl
+
+pub fade_line : (s : StudioState) (notes : Notes) (body : Body) → s.program.fades ≡ true →
+    effect_of s notes body SetCurrentProgramScene ≡ None
+fade_line s notes body fades = rw fades refl
 
 -- a request whose kind was read as this text, which is of this type
 module _ (s : StudioState) (notes : Notes) (ask : Ask) (text kind : List ℕ) (type : RequestType)

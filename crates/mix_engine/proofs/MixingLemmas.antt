@@ -1,33 +1,28 @@
 -- What the actions of connections come to, over the parts that the code keeps.
-use Rattle.std.proofs.Common.{◌≡◌, ℕ, ◌+◌, ◌≤◌, Bool, true, false, cond, List, [], ◌∷◌}
-use Rattle.std.proofs.Common.{◌++◌, length}
+use Rattle.std.proofs.Common.{◌≡◌, ℕ, ◌+◌, Bool, true, false, List, [], ◌∷◌}
+use Rattle.std.proofs.Common.{◌++◌, length, ◌<◌, ◌^◌}
 use Rattle.std.proofs.Common.{map, filter, All, Option, Some, None, refl, sym, ap, ◌∙◌}
-use Rattle.std.proofs.Common.{option_map, subst, IsTrue, is_some, IfOk, Result, OnOk}
+use Rattle.std.proofs.Common.{option_map, subst}
 use Rattle.std.specs.Prelude.{nat_lt}
 use Rattle.std.specs.Option.{option_map_or}
-use Rattle.std.proofs.lemmas.List.{append-nil, length-map, map-append}
+use Rattle.std.proofs.lemmas.List.{append-nil, length-map}
 use Rattle.std.proofs.lemmas.List.Elements.{All-append, All-map, All-push}
 use Rattle.mix_events.specs.Sayable.{IsSayable, IsSayableEvent}
-use Rattle.mix_model.specs.declared.action.Action.TheVariants.{Arrive, Hear, Poll, Leave}
-use Rattle.mix_model.specs.declared.ask.Ask.{Ask}
-use Rattle.mix_model.specs.declared.ask.Done.{Done}
+use Rattle.mix_model.specs.declared.action.Action.TheVariants.{Hear}
 use Rattle.mix_model.specs.declared.event.Event.{Event}
-use Rattle.mix_model.specs.declared.event.Twin.{Twin}
 use Rattle.mix_model.specs.declared.message.Message.{Message}
 use Rattle.mix_model.specs.declared.notes.Notes.{Notes}
 use Rattle.mix_model.specs.declared.said.Said.{Said}
-use Rattle.mix_model.specs.declared.said.Said.TheVariants.{Response}
 use Rattle.mix_model.specs.declared.said.Said.TheVariants.{Event as OfEvent}
 use Rattle.mix_model.specs.Opening.{no_notes}
 use Rattle.mix_model.specs.State.{GraphState, StudioState}
+use Rattle.mix_model.specs.WholeShape.{StudioShape}
 use Rattle.mix_session.specs.declared.heard.Heard.{Heard}
-use Rattle.mix_session.specs.declared.heard.Heard.TheVariants.{Say}
-use Rattle.mix_session.specs.declared.heard.Heard.TheVariants.{Ask as AskOne}
 use Rattle.mix_session.specs.Hear.{hear}
 use Rattle.mix_session.specs.SessionState.{hello}
 use Rattle.mix_engine.specs.declared.attendance.Attendance.TheVariants as att
 use Rattle.mix_engine.specs.declared.own.Own.{Own}
-use Rattle.mix_engine.specs.declared.own.Own.TheVariants.{Full, Gone, Told}
+use Rattle.mix_engine.specs.declared.own.Own.TheVariants.{Told}
 use Rattle.mix_engine.specs.declared.spoken.Spoken.{Spoken}
 use Rattle.mix_engine.specs.declared.still.Still.{Still}
 use Rattle.mix_engine.specs.Answers.{first_due}
@@ -39,115 +34,17 @@ use Rattle.mix_engine.specs.Listeners.{waiting_of, waiting_for, taken_by, told_t
 use Rattle.mix_engine.specs.Members.{Gathered}
 use Rattle.mix_engine.specs.Mixer.{Mixer, Connection}
 use Rattle.mix_engine.specs.Mixings.{Mixed, mixer_of, mixed_of, mixed_after}
-use Rattle.mix_engine.specs.Mixings.{mixed_after_any, comes_of}
-use Rattle.mix_engine.specs.Mixings.{IsListener, IsMixing, IsIdle, IsPlain}
-use Rattle.mix_engine.specs.Outcomes.{Outcome, only, joins, closes, leaves, identifies}
-use Rattle.mix_engine.specs.Requests.{Requested, requested, answers}
-use Rattle.mix_engine.specs.Requesting.{done_in, studio_after}
+use Rattle.mix_engine.specs.Mixings.{comes_of}
+use Rattle.mix_engine.specs.Mixings.{IsListener, IsMixing, IsIdle}
+use Rattle.mix_engine.specs.Outcomes.{Outcome, only, joins, identifies}
 use Rattle.mix_engine.specs.Scenery.{HasScenes}
-use Rattle.mix_engine.specs.Spoken.{comes_to, Says, Speaks}
+use Rattle.mix_engine.specs.Spoken.{comes_to, Says}
 use Rattle.mix_engine.specs.Stills.{studio_of}
-use Rattle.mix_engine.specs.Telling.{Tells, TellsRequested, queued_in, most_events}
-use Rattle.mix_engine.proofs.HeardLemmas.{hears_plainly}
 use Rattle.mix_engine.proofs.ListenerLemmas.{found_conn, listens, queued_nothing, told_plainly}
-use Rattle.mix_engine.proofs.ListenerLemmas.{queued_heard, taken_heard}
 use Rattle.mix_engine.proofs.ListenerLemmas.{taken_by_sayable, waiting_sayable, unknown}
 use Rattle.mix_engine.proofs.ListenerLemmas.{ended_all, queued_all, masked_all}
 use Rattle.mix_engine.proofs.ListenerLemmas.{others_all, joined_all}
-use Rattle.mix_engine.proofs.RequestLemmas.{notes_kept, done_sayable}
-
--- ---- who is open
-
--- the open connection of a number, and whether it is cut
-pub record IsOpen (conns : List Connection) (conn : ℕ) (cut : Bool) : Type 0 where
-  pub one : Connection
-  pub found : conn_at conn conns ≡ Some one
-  pub cut_is : one.cut ≡ cut
-
--- ---- what an action comes to
-
--- a step that speaks as the outcome does, and leaves what it leaves
-pub speaks : (ls : List Listener) (spoken : Spoken) (x : Option Outcome) (o : Outcome) →
-    x ≡ Some o → Says ls spoken o → Speaks ls (Some spoken) x
-speaks ls spoken x o is says = subst (Speaks ls (Some spoken)) (sym is) says
-
-pub leaves_after : (s t : Mixed) (x : Option Outcome) (o : Outcome) → x ≡ Some o →
-    t ≡ mixed_after s o → t ≡ mixed_after_any s x
-leaves_after s t x o is left = left ∙ sym (ap (mixed_after_any s) is)
-
--- the same of a part of it that may fail
-pub speaks_as : {E : Type 0} (ls : List Listener) (r : Result (Option Spoken) E)
-    (x y : Option Outcome) → x ≡ y → IfOk r (λ spoken. Speaks ls spoken y) →
-    IfOk r (λ spoken. Speaks ls spoken x)
-speaks_as ls r x y is says = subst (λ z. IfOk r (λ spoken. Speaks ls spoken z)) (sym is) says
-
-pub leaves_as : {E : Type 0} (s t : Mixed) (r : Result (Option Spoken) E) (x y : Option Outcome) →
-    x ≡ y → OnOk r (t ≡ mixed_after_any s y) → OnOk r (t ≡ mixed_after_any s x)
-leaves_as s t r x y is left = subst (λ z. OnOk r (t ≡ mixed_after_any s z)) (sym is) left
-
--- a connection comes where there is room for it
-pub arrives : (s : Mixer) (challenge : List ℕ) → nat_lt (length s.conns) 64 ≡ true →
-    comes_to s (Arrive challenge) ≡ Some (joins s challenge (hello s.secret challenge))
-arrives s challenge room = rw room refl
-
-pub arrives_full : (s : Mixer) (challenge : List ℕ) → nat_lt (length s.conns) 64 ≡ false →
-    comes_to s (Arrive challenge) ≡ Some (only s Full [])
-arrives_full s challenge full = rw full refl
-
--- an action of a connection that isn't open
-pub polls_gone : (s : Mixer) (conn : ℕ) → conn_at conn s.conns ≡ None →
-    comes_to s (Poll conn) ≡ Some (only s (Gone conn) [])
-polls_gone s conn found = rw found refl
-
-pub goes_gone : (s : Mixer) (conn : ℕ) → conn_at conn s.conns ≡ None →
-    comes_to s (Leave conn) ≡ Some (only s (Gone conn) [])
-goes_gone s conn found = rw found refl
-
-pub hears_gone : (s : Mixer) (conn : ℕ) (message : Message) → conn_at conn s.conns ≡ None →
-    comes_to s (Hear conn message) ≡ Some (only s (Gone conn) [])
-hears_gone s conn message found = rw found refl
-
--- of one that is cut
-pub polls_cut : (s : Mixer) (conn : ℕ) → IsOpen s.conns conn true →
-    comes_to s (Poll conn) ≡ Some (closes s conn 4011)
-polls_cut s conn is = rw (is.found, is.cut_is) refl
-
-pub goes_cut : (s : Mixer) (conn : ℕ) → IsOpen s.conns conn true →
-    comes_to s (Leave conn) ≡ Some (closes s conn 4011)
-goes_cut s conn is = rw (is.found, is.cut_is) refl
-
-pub hears_cut : (s : Mixer) (conn : ℕ) (message : Message) → IsOpen s.conns conn true →
-    comes_to s (Hear conn message) ≡ Some (closes s conn 4011)
-hears_cut s conn message is = rw (is.found, is.cut_is) refl
-
--- and of any other
-pub polls : (s : Mixer) (conn : ℕ) → IsOpen s.conns conn false →
-    comes_to s (Poll conn) ≡ Some (only s (Told conn) [])
-polls s conn is = rw (is.found, is.cut_is) refl
-
-pub goes : (s : Mixer) (conn : ℕ) → IsOpen s.conns conn false →
-    comes_to s (Leave conn) ≡ Some (leaves s conn)
-goes s conn is = rw (is.found, is.cut_is) refl
-
-hears : (s : Mixer) (conn : ℕ) (message : Message) (c : Connection) (heard : Heard) →
-    conn_at conn s.conns ≡ Some c → c.cut ≡ false →
-    heard ≡ hear s.secret c.challenge c.mask message →
-    comes_to s (Hear conn message) ≡ comes_of s conn heard
-hears s conn message c heard found uncut is = rw (found, uncut, is) refl
-
--- what is said at once is said where the mask is deaf
-pub says : (s : Mixer) (conn : ℕ) (said : Said) (mask : ℕ) → is_deaf mask ≡ true →
-    comes_of s conn (Say said mask) ≡ Some (identifies s conn mask said)
-says s conn said mask deaf = ap (λ b. cond b (Some (identifies s conn mask said)) None) deaf
-
--- what a message came to is plain
-pub plain_heard : (secret : Option (List ℕ × List ℕ)) (message : Message)
-    (found : Option Listener) (heard : Heard) →
-    Some heard ≡ option_map (λ l. hear secret l.challenge l.mask message) found → IsPlain heard
-plain_heard secret message None heard is = cc
-plain_heard secret message (Some l) heard is =
-    let same : hear secret l.challenge l.mask message ≡ heard = cc in
-    subst IsPlain same (hears_plainly secret l.challenge l.mask message)
+use Rattle.mix_engine.proofs.ComingLemmas.{IsOpen, hears}
 
 -- ---- what can be said
 
@@ -176,62 +73,84 @@ taken_sayable conn ls events before items sayable all is = subst (All IsSayable)
 
 -- ---- the parts stay as they should be
 
-module _ (still : Still) (g : GraphState) (ls : List Listener) (n : ℕ)
-    (mixing : IsMixing still g ls n) where
-  with_listeners : (g' : GraphState) (n' : ℕ) (xs ys : List Listener) → HasScenes g' → xs ≡ ys →
-      All (IsListener n') ys → IsMixing still g' xs n'
-  with_listeners g' n' xs ys scenes is all = record {
+module _ (still : Still) (g : GraphState) (clock : ℕ) (ls : List Listener) (n : ℕ)
+    (mixing : IsMixing still g clock ls n) where
+  with_listeners : (n' : ℕ) (xs ys : List Listener) → xs ≡ ys → All (IsListener n') ys →
+      IsMixing still g clock xs n'
+  with_listeners n' xs ys is all = record {
     listeners_are = subst (All (IsListener n')) (sym is) all;
-    scenes = scenes;
+    scenes = mixing.scenes;
     program = mixing.program;
+    shape = mixing.shape;
+    clock_is = mixing.clock_is;
   }
 
-  pub same_mixing : (xs : List Listener) → xs ≡ ls → IsMixing still g xs n
-  same_mixing xs is = with_listeners g n xs ls mixing.scenes is mixing.listeners_are
+  pub same_mixing : (xs : List Listener) → xs ≡ ls → IsMixing still g clock xs n
+  same_mixing xs is = with_listeners n xs ls is mixing.listeners_are
 
   pub rests_mixing : (actor : Option ℕ) (xs : List Listener) → xs ≡ map (ended actor) ls →
-      IsMixing still g xs n
-  rests_mixing actor xs is = with_listeners g n xs (map (ended actor) ls) mixing.scenes is
+      IsMixing still g clock xs n
+  rests_mixing actor xs is = with_listeners n xs (map (ended actor) ls) is
       (ended_all n actor ls mixing.listeners_are)
 
   pub others_mixing : (actor : Option ℕ) (conn : ℕ) (xs ys : List Listener) →
-      xs ≡ filter (is_other conn) ls → ys ≡ map (ended actor) xs → IsMixing still g ys n
+      xs ≡ filter (is_other conn) ls → ys ≡ map (ended actor) xs → IsMixing still g clock ys n
   others_mixing actor conn xs ys left is =
-      with_listeners g n ys (map (ended actor) (filter (is_other conn) ls)) mixing.scenes
+      with_listeners n ys (map (ended actor) (filter (is_other conn) ls))
       (is ∙ ap (map (ended actor)) left)
       (ended_all n actor (filter (is_other conn) ls) (others_all n conn ls mixing.listeners_are))
 
   pub masked_mixing : (actor : Option ℕ) (conn mask : ℕ) (xs ys : List Listener) →
       is_deaf mask ≡ true → xs ≡ map (with_mask conn mask) ls → ys ≡ map (ended actor) xs →
-      IsMixing still g ys n
+      IsMixing still g clock ys n
   masked_mixing actor conn mask xs ys deaf masked is =
-      with_listeners g n ys (map (ended actor) (map (with_mask conn mask) ls)) mixing.scenes
+      with_listeners n ys (map (ended actor) (map (with_mask conn mask) ls))
       (is ∙ ap (map (ended actor)) masked)
       (ended_all n actor (map (with_mask conn mask) ls)
       (masked_all n conn mask ls deaf mixing.listeners_are))
 
   pub joined_mixing : (actor : Option ℕ) (challenge : List ℕ) (xs ys : List Listener) →
       xs ≡ ls ++ new_listener n challenge ∷ [] → ys ≡ map (ended actor) xs →
-      IsMixing still g ys (n + 1)
+      IsMixing still g clock ys (n + 1)
   joined_mixing actor challenge xs ys joined is =
-      with_listeners g (n + 1) ys (map (ended actor) (ls ++ new_listener n challenge ∷ []))
-      mixing.scenes (is ∙ ap (map (ended actor)) joined)
+      with_listeners (n + 1) ys (map (ended actor) (ls ++ new_listener n challenge ∷ []))
+      (is ∙ ap (map (ended actor)) joined)
       (ended_all (n + 1) actor (ls ++ new_listener n challenge ∷ [])
       (joined_all n challenge ls mixing.listeners_are))
 
-  pub told_mixing : (g' : GraphState) (actor : Option ℕ) (events : List Event)
-      (ws xs ys : List Listener) → HasScenes g' → All IsSayableEvent events → ws ≡ ls →
-      xs ≡ map (queued actor events) ws → ys ≡ map (ended actor) xs → IsMixing still g' ys n
-  told_mixing g' actor events ws xs ys scenes sayable same told is =
-      with_listeners g' n ys (map (ended actor) (map (queued actor events) ls)) scenes
-      (is ∙ ap (map (ended actor)) (told ∙ ap (map (queued actor events)) same))
-      (ended_all n actor (map (queued actor events) ls)
-      (queued_all n actor events ls sayable mixing.listeners_are))
+  -- where the studio changes as well
+  pub told_mixing : (still' : Still) (g' : GraphState) (actor : Option ℕ) (events : List Event)
+      (ws xs ys : List Listener) → HasScenes g' → still'.program < 2 ^ 48 →
+      StudioShape (studio_of still' g') → g'.clock ≡ g.clock → All IsSayableEvent events →
+      ws ≡ ls → xs ≡ map (queued actor events) ws → ys ≡ map (ended actor) xs →
+      IsMixing still' g' clock ys n
+  told_mixing still' g' actor events ws xs ys scenes program shape same_clock sayable same told is =
+      record {
+        listeners_are = subst (All (IsListener n))
+            (sym (is ∙ ap (map (ended actor)) (told ∙ ap (map (queued actor events)) same)))
+            (ended_all n actor (map (queued actor events) ls)
+            (queued_all n actor events ls sayable mixing.listeners_are));
+        scenes = scenes;
+        program = program;
+        shape = shape;
+        clock_is = mixing.clock_is ∙ sym same_clock;
+      }
+
+  pub ticked_mixing : (g' : GraphState) (clock' : ℕ) (actor : Option ℕ) (xs : List Listener) →
+      HasScenes g' → StudioShape (studio_of still g') → clock' ≡ g'.clock →
+      xs ≡ map (ended actor) ls → IsMixing still g' clock' xs n
+  ticked_mixing g' clock' actor xs scenes shape same is = record {
+    listeners_are = subst (All (IsListener n)) (sym is) (ended_all n actor ls mixing.listeners_are);
+    scenes = scenes;
+    program = mixing.program;
+    shape = shape;
+    clock_is = same;
+  }
 
 -- ---- these parts, seen from the whole
 
 -- a whole of such parts
-abbrev whole : StudioState → Notes → Option (List ℕ × List ℕ) → List Connection → ℕ →
+abbrev pub whole : StudioState → Notes → Option (List ℕ × List ℕ) → List Connection → ℕ →
     List Listener → Mixed
 whole studio notes secret conns n ls = record {
   mixer = record {
@@ -245,17 +164,17 @@ whole studio notes secret conns n ls = record {
 }
 
 -- the mixer of the parts where these listen
-abbrev mixer_with : Still → GraphState → Option (List ℕ × List ℕ) → List Listener → ℕ → Mixer
+abbrev pub mixer_with : Still → GraphState → Option (List ℕ × List ℕ) → List Listener → ℕ → Mixer
 mixer_with still g secret ls n = mixer_of still g secret (map conn_of ls) n
 
-abbrev mixed_with : Still → GraphState → Option (List ℕ × List ℕ) → List Listener → ℕ → Mixed
+abbrev pub mixed_with : Still → GraphState → Option (List ℕ × List ℕ) → List Listener → ℕ → Mixed
 mixed_with still g secret ls n = record {
   mixer = mixer_with still g secret ls n;
   listeners = ls;
 }
 
 -- what an outcome leaves of these parts
-parts_after : (still still' : Still) (g g' : GraphState)
+pub parts_after : (still still' : Still) (g g' : GraphState)
     (secret : Option (List ℕ × List ℕ)) (ls : List Listener) (a' : Gathered) (n n' : ℕ)
     (o : Outcome) →
     o.studio ≡ studio_of still' g' → o.notes ≡ no_notes → o.next_conn ≡ n' →
@@ -427,9 +346,12 @@ module _ (still : Still) (g : GraphState) (secret : Option (List ℕ × List ℕ
   pub says_hello : (spoken : Spoken) (challenge : List ℕ) (said : Said) (before : List Said) →
       All (IsListener n) ls → spoken.own ≡ Told n → before ≡ [] →
       said ≡ hello secret challenge → spoken.said.items ≡ before ++ said ∷ [] →
-      Says s.listeners spoken (joins s.mixer challenge (hello s.mixer.secret challenge))
-  says_hello spoken challenge said before all own empty said_is is = subst (λ (t : Mixed).
-      Says t.listeners spoken (joins t.mixer challenge (hello t.mixer.secret challenge))) view
+      spoken.shot ≡ None →
+      Says s.listeners s.mixer.studio spoken
+      (joins s.mixer challenge (hello s.mixer.secret challenge))
+  says_hello spoken challenge said before all own empty said_is is none = subst (λ (t : Mixed).
+      Says t.listeners t.mixer.studio spoken
+      (joins t.mixer challenge (hello t.mixer.secret challenge))) view
       (let one : Outcome = joins (mixer_with still g secret ls n) challenge
       (hello secret challenge) in record {
         own = own;
@@ -437,98 +359,5 @@ module _ (still : Still) (g : GraphState) (secret : Option (List ℕ × List ℕ
             (is ∙ ap (λ l. l ++ said ∷ []) empty ∙ ap (λ x. x ∷ []) said_is
             ∙ ap (λ found. map OfEvent (waiting_of found) ++ hello secret challenge ∷ [])
             (sym (unknown n ls all)));
+        shot = none;
       })
-
--- ---- requests
-
--- what a request came to that was answered, with the pairs of its events
-pub record IsAsked (asked : Option Requested) (done : Done) (twins : List Twin) : Type 0 where
-  pub all : Requested
-  pub asked_is : asked ≡ Some all
-  pub done_is : all.done ≡ done
-  pub tells : Tells twins all.events
-  pub few : length twins ≤ most_events
-
-pub was_asked : (asked : Option Requested) (found : Option Done) (done : Done)
-    (twins : List Twin) → found ≡ Some done → found ≡ done_in asked → TellsRequested twins asked →
-    IsAsked asked done twins
-was_asked None found done twins some is tells = cc
-was_asked (Some r) found done twins some is tells = record {
-  all = r;
-  asked_is = refl;
-  done_is = cc;
-  tells = tells.0;
-  few = tells.1;
-}
-
--- what was done can be said
-pub done_sayable_as : (s : StudioState) (notes : Notes) (ask : Ask) (done : Done)
-    (twins : List Twin) → IsTrue (is_some ask.id) → IsAsked (requested s notes ask) done twins →
-    IsSayable (Response done)
-done_sayable_as s notes ask done twins has_id asked =
-    subst (λ d. IsSayable (Response d)) asked.done_is
-    (done_sayable s notes ask asked.all has_id asked.asked_is)
-
-module _ (still : Still) (g : GraphState) (secret : Option (List ℕ × List ℕ))
-    (ls : List Listener) (n : ℕ) (s : Mixed) (view : mixed_with still g secret ls n ≡ s)
-    (ask : Ask) where
-  -- a request comes to what is requested
-  pub asks : (conn : ℕ) (r : Requested) → requested (studio_of still g) no_notes ask ≡ Some r →
-      comes_of s.mixer conn (AskOne ask) ≡ Some (answers s.mixer conn (Some r))
-  asks conn r is = subst (λ (t : Mixed). comes_of t.mixer conn (AskOne ask)
-      ≡ Some (answers t.mixer conn (Some r))) view (rw is refl)
-
-  -- and to nothing where it isn't built
-  pub asks_nothing : (conn : ℕ) → None ≡ done_in (requested (studio_of still g) no_notes ask) →
-      comes_of s.mixer conn (AskOne ask) ≡ None
-  asks_nothing conn is = subst (λ (t : Mixed). comes_of t.mixer conn (AskOne ask) ≡ None) view
-      (rw (nothing_done (requested (studio_of still g) no_notes ask) is) refl)
-    where
-      nothing_done : (asked : Option Requested) → None ≡ done_in asked → asked ≡ None
-      nothing_done None is = refl
-      nothing_done (Some r) is = cc
-
-  -- the connections that it leaves
-  module _ (done : Done) (twins : List Twin)
-      (asked : IsAsked (requested (studio_of still g) no_notes ask) done twins)
-      (all : All (IsListener n) ls) where
-    pub answered_left : (g' : GraphState) (a' : Gathered) (conn : ℕ) (ws xs : List Listener) →
-        studio_of still g' ≡ studio_after (studio_of still g)
-        (requested (studio_of still g) no_notes ask) → a'.secret ≡ secret → ws ≡ ls →
-        xs ≡ map (queued (Some conn) (queued_in twins)) ws →
-        a'.listeners ≡ map (ended (Some conn)) xs →
-        mixed_of still g' a' n ≡ mixed_after s (answers s.mixer conn (Some asked.all))
-    answered_left g' a' conn ws xs studio knows same told is =
-        subst (λ (t : Mixed). mixed_of still g' a' n
-        ≡ mixed_after t (answers t.mixer conn (Some asked.all))) view
-        (parts_after still still g g' secret ls a' n n
-        (answers (mixer_with still g secret ls n) conn (Some asked.all))
-        (sym (studio ∙ ap (studio_after (studio_of still g)) asked.asked_is))
-        (notes_kept (studio_of still g) no_notes ask asked.all asked.asked_is) refl knows
-        (is ∙ ap (map (ended (Some conn)))
-        (told ∙ ap (map (queued (Some conn) (queued_in twins))) same
-        ∙ sym (ap (λ es. map (queued (Some conn) es) ls) asked.tells.events_are
-        ∙ queued_heard n (queued_in twins) asked.tells.rest asked.tells.unheard (Some conn)
-        ls all))))
-
-    -- what waits for it, the events that it takes, and the answer
-    pub answered_told : (conn : ℕ) (ws : List Listener) (before then items : List Said) →
-        ws ≡ ls → before ≡ map OfEvent (waiting_for conn ls) →
-        then ≡ before ++ map OfEvent (taken_by conn ws (queued_in twins)) →
-        items ≡ then ++ Response done ∷ [] →
-        items ≡ told_to conn s.listeners (answers s.mixer conn (Some asked.all))
-    answered_told conn ws before then items same waited told is =
-        is ∙ ap (λ l. l ++ Response done ∷ []) (told
-        ∙ ap (λ l. l ++ map OfEvent (taken_by conn ws (queued_in twins))) waited
-        ∙ ap (λ l. map OfEvent (waiting_for conn ls)
-        ++ map OfEvent (taken_by conn l (queued_in twins))) same
-        ∙ sym (map-append OfEvent (waiting_for conn ls)
-        (taken_by conn ls (queued_in twins)))
-        ∙ ap (λ es. map OfEvent (waiting_for conn ls ++ es))
-        (sym (ap (taken_by conn ls) asked.tells.events_are
-        ∙ taken_heard n (queued_in twins) asked.tells.rest asked.tells.unheard conn ls
-        all)))
-        ∙ ap (λ d. map OfEvent (waiting_for conn ls
-        ++ taken_by conn ls asked.all.events) ++ Response d ∷ []) (sym asked.done_is)
-        ∙ ap (λ (t : Mixed). map OfEvent (waiting_for conn t.listeners
-        ++ taken_by conn t.listeners asked.all.events) ++ Response asked.all.done ∷ []) view

@@ -1,10 +1,11 @@
 -- What opens: the lines are done, the program is on its scene, and that is all of the mixer.
 use Rattle.std.proofs.Common.{◌≡◌, ℕ, ◌+◌, ◌<◌, ◌≤◌, ◌^◌, Bool, true, false, cond, List, [], ◌∷◌}
 use Rattle.std.proofs.Common.{length, All, Option, Some, None, Result, Ok, Err, refl, sym, ap, ◌∙◌}
-use Rattle.std.proofs.Common.{subst, arith, not, ◌&&◌, ◌||◌, eqb-true, find, option_map}
-use Rattle.std.specs.Option.{is_none, is_some, option_map_or, unwrap_or}
+use Rattle.std.proofs.Common.{subst, arith, not, ◌&&◌, ◌||◌, eqb-true, find}
+use Rattle.std.proofs.Common.{slice_set, take, leb-true, ◌==◌, nat_lt}
+use Rattle.std.specs.Option.{is_none, is_some, option_map_or}
 use Rattle.std.specs.Bool.{IsTrue}
-use Rattle.std.specs.List.{list_any}
+use Rattle.std.specs.List.{list_any, list_all}
 use Rattle.std.specs.Result.{is_ok}
 use Rattle.mix_graph.specs.Refused.{is_missing}
 use Rattle.std.proofs.lemmas.List.Elements.{All-nil, All-head, All-tail}
@@ -14,13 +15,16 @@ use Rattle.mix_model.specs.declared.collection.Collection.{Collection}
 use Rattle.mix_model.specs.declared.collection.Line.{Line}
 use Rattle.mix_model.specs.declared.row.Row.{Row}
 use Rattle.mix_model.specs.Rows.{is_scene, is_at}
-use Rattle.mix_model.specs.State.{GraphState, StudioState, Rest}
-use Rattle.mix_model.specs.Holders.{is_named, find_named}
-use Rattle.mix_model.specs.Lookups.{row_passes, named_by}
+use Rattle.mix_model.specs.State.{GraphState, StudioState, Rest, Channel, Frame}
+use Rattle.mix_model.specs.Program.{channel_of}
+use Rattle.mix_model.specs.Shape.{GraphShape}
+use Rattle.mix_model.specs.WholeShape.{StudioShape}
+use Rattle.mix_model.specs.Holders.{is_named}
+use Rattle.mix_model.specs.Lookups.{row_passes, named_by, registry}
 use Rattle.mix_model.specs.Recordings.{no_recording}
 use Rattle.mix_model.specs.Edits.{empty_graph, channel_set, preview_set}
 use Rattle.mix_model.specs.Marks.{GraphModel, edited}
-use Rattle.mix_model.specs.Causes.{first_cause, cause_or}
+use Rattle.mix_model.specs.Causes.{first_cause, cause_or, item_count}
 use Rattle.mix_model.specs.Lines.{lines_done, unless}
 use Rattle.mix_model.specs.Lines.{serial_named, named_scene_cause}
 use Rattle.mix_model.specs.Opening.{opening_of, opening_studio, opening_state, opening_preview}
@@ -29,24 +33,14 @@ use Rattle.mix_engine.specs.Mixer.{Mixer, Connection, start_of, studio_or}
 use Rattle.mix_engine.specs.Mixings.{mixer_of, IsListener, IsMixing}
 use Rattle.mix_engine.specs.Scenery.{HasScenes}
 use Rattle.mix_engine.specs.Stills.{studio_of}
-use Rattle.mix_engine.specs.Openings.{IsFresh, IsOnProgram, OpensScenes, OpensProgram, still_of}
+use Rattle.mix_engine.specs.Openings.{IsFresh, IsOnProgram, OpensLines, OpensProgram, still_of}
 use Rattle.mix_engine.specs.Listeners.{Listener}
 use Rattle.mix_engine.specs.declared.still.Still.{Still}
 use Rattle.mix_engine.specs.Openings.{are_lines_built, can_open, mixer_opened}
+use Rattle.mix_engine.specs.Openings.{IsFitting, IsFreshRow}
+use Rattle.mix_engine.specs.Spoken.{ItemsWithin}
 use Rattle.mix_engine.proofs.OpeningLemmas.{edit_alone, settled_already}
-
--- the serial that was found, or 0
-found_or : (found : Option Row) →
-    unwrap_or (option_map (λ r. r.serial) found) 0 ≡ option_map_or (λ r. r.serial) found 0
-found_or None = refl
-found_or (Some row) = refl
-
--- it is that of the name
-pub serial_given : (g : GraphState) (name text : List ℕ) (found : Option ℕ) (x : ℕ) →
-    found ≡ option_map (λ r. r.serial) (find_named g text) → text ≡ name →
-    x ≡ unwrap_or found 0 → x ≡ serial_named g name
-serial_given g name text found x look same is =
-    is ∙ ap (λ o. unwrap_or o 0) look ∙ found_or (find_named g text) ∙ ap (serial_named g) same
+use Rattle.mix_engine.proofs.FreshLemmas.{fresh_items}
 
 -- both tests of a scene that is named
 both_passed : (named scene : Bool) (x y : GraphFault) → named ≡ true → scene ≡ true →
@@ -88,7 +82,8 @@ unfolding channel_set
 fresh_set m new channel fresh is =
     ap (λ (n : GraphModel). n.present) (is ∙ edit_alone m (channel_set 0 channel m.present)
     (channel_set 0 channel) fresh.begun refl (settled_already (channel_set 0 channel m.present)
-    fresh.clock fresh.unmarked fresh.registered))
+    fresh.clock (λ k d within. (fresh.rows k d within).unmarked)
+    (λ k d within. (fresh.rows k d within).known)))
 
 -- the row is a scene
 abbrev shows_scene : Row → Bool
@@ -134,7 +129,8 @@ on_program m new name x fresh is scene missing made = record {
   serial_is = is;
   present = fresh_set m new (Some x, None) fresh made
       ∙ ap (λ y. channel_set 0 (Some y, None) m.present) is;
-  low = found_low m.present.rows x shows_scene fresh.low scene;
+  low = found_low m.present.rows x shows_scene
+      (λ k d within. (fresh.rows k d within).low) scene;
 }
 
 -- what a channel names is nothing to the scenes, nor to the next serial
@@ -176,23 +172,95 @@ no_studio : (studio : Option (List ℕ)) → false ≡ is_some studio → studio
 no_studio None plain = refl
 no_studio (Some name) plain = cc
 
+-- the first of channels that are there is set
+first_set : (cs : List Channel) (c : Channel) → (length (slice_set cs 0 c) == 64) ≡ true →
+    take 1 (slice_set cs 0 c) ≡ c ∷ []
+first_set [] c long = cc
+first_set (d ∷ cs) c long = refl
+
+-- and nothing but channels is
+set_frames : (g : GraphState) (channel : Channel) → (channel_set 0 channel g).frames ≡ g.frames
+unfolding channel_set
+set_frames g channel = refl
+
+set_clock : (g : GraphState) (channel : Channel) → (channel_set 0 channel g).clock ≡ g.clock
+unfolding channel_set
+set_clock g channel = refl
+
+set_rows : (g : GraphState) (channel : Channel) → (channel_set 0 channel g).rows ≡ g.rows
+unfolding channel_set
+set_rows g channel = refl
+
+set_first : (g : GraphState) (channel : Channel) →
+    (length (channel_set 0 channel g).channels == 64) ≡ true →
+    take 1 (channel_set 0 channel g).channels ≡ channel ∷ []
+unfolding channel_set
+set_first g channel long = first_set g.channels channel long
+
 -- a collection whose lines are done, and whose program is on its scene
-module _ (c : Collection) (m made : GraphModel) (x : ℕ) (lines : OpensScenes (Some m) c.lines)
+module _ (c : Collection) (m made : GraphModel) (x : ℕ) (lines : OpensLines (Some m) c.lines)
     (on : IsOnProgram m.present c.program made x) where
+  -- what channel 0 names
+  abbrev program_channel : Channel
+  program_channel = (Some (serial_named m.present c.program), None)
+
   -- its scenes are as they should be
   opened_scenes : HasScenes made.present
-  opened_scenes = subst HasScenes (sym on.present) (set_scenes m.present
-      (Some (serial_named m.present c.program), None) lines.0.scenes)
+  opened_scenes = subst HasScenes (sym on.present)
+      (set_scenes m.present program_channel lines.0.scenes)
+
+  -- the clock stands at 0
+  pub opened_clock : made.present.clock ≡ 0
+  opened_clock = ap (λ (g : GraphState). g.clock) on.present
+      ∙ set_clock m.present program_channel ∙ lines.0.clock
+
+  -- nothing is in flight
+  opened_frames : made.present.frames ≡ []
+  opened_frames = ap (λ (g : GraphState). g.frames) on.present
+      ∙ set_frames m.present program_channel ∙ lines.0.frames
+
+  -- channel 0 names what the program shows
+  opened_channel : GraphShape made.present →
+      take 1 made.present.channels ≡ channel_of (Rest x) ∷ []
+  opened_channel shape = ap (λ (g : GraphState). take 1 g.channels) on.present
+      ∙ set_first m.present program_channel
+      (ap (λ (g : GraphState). length g.channels == 64) (sym on.present) ∙ shape.channel_count)
+      ∙ ap (λ y. let channel : Channel = (Some y, None) in channel ∷ []) (sym on.serial_is)
+
+  -- its studio has its shape
+  opened_shape : IsFitting c → GraphShape made.present →
+      StudioShape (studio_of (still_of c x) made.present)
+  opened_shape fits shape = record {
+    sources = shape;
+    program = opened_channel shape;
+    fade_running = refl;
+    duration = fits.duration;
+    frames_past = ap (list_all (λ (f : Frame). nat_lt f.number made.present.clock)) opened_frames;
+    canvas = fits.canvas;
+    rate = fits.rate;
+    format = fits.format;
+  }
 
   -- the invariant of its mixer
-  pub opened_mixing : (still : Still) (ls : List Listener) → still ≡ still_of c x → ls ≡ [] →
-      IsMixing still made.present ls 1
-  opened_mixing still ls still_is nobody = record {
+  pub opened_mixing : (still : Still) (clock : ℕ) (ls : List Listener) → still ≡ still_of c x →
+      clock ≡ 0 → ls ≡ [] → IsFitting c → GraphShape made.present →
+      IsMixing still made.present clock ls 1
+  opened_mixing still clock ls still_is begins nobody fits shape = record {
     listeners_are = subst (All (IsListener 1)) (sym nobody) (All-nil (IsListener 1));
     scenes = opened_scenes;
     program = subst (λ (s : Still). s.program < 2 ^ 48) (sym still_is)
         (let low : x ≤ 512 = on.low in omega arith);
+    shape = subst (λ (s : Still). StudioShape (studio_of s made.present)) (sym still_is)
+        (opened_shape fits shape);
+    clock_is = begins ∙ sym opened_clock;
   }
+
+  -- the next ids of items are low
+  pub opened_items : GraphShape made.present → ItemsWithin 2049 made.present
+  opened_items shape = fresh_items made.present 2048 (registry m.present)
+      (subst (All (IsFreshRow (registry m.present)))
+      (sym (ap (λ (g : GraphState). g.rows) on.present ∙ set_rows m.present program_channel))
+      lines.0.rows) (leb-true (item_count made.present.rows) 2048 shape.few_items)
 
   -- the serials so far
   pub opened_serials : made.present.next_serial ≤ 513
@@ -304,15 +372,15 @@ shut_program c g done out = stays_shut c
 
 -- the scenes of the lines, and the program among them, as they were answered
 pub lines_opened : (c : Collection) (lines : List Line) (scenes : Option GraphModel)
-    (m : GraphModel) → lines ≡ c.lines → scenes ≡ Some m → OpensScenes scenes lines →
-    OpensScenes (Some m) c.lines
+    (m : GraphModel) → lines ≡ c.lines → scenes ≡ Some m → OpensLines scenes lines →
+    OpensLines (Some m) c.lines
 lines_opened c lines scenes m same is opens =
-    subst (OpensScenes (Some m)) same (subst (λ o. OpensScenes o lines) is opens)
+    subst (OpensLines (Some m)) same (subst (λ o. OpensLines o lines) is opens)
 
 pub lines_shut : (c : Collection) (lines : List Line) (scenes : Option GraphModel) →
-    lines ≡ c.lines → scenes ≡ None → OpensScenes scenes lines → None ≡ mixer_opened c
+    lines ≡ c.lines → scenes ≡ None → OpensLines scenes lines → None ≡ mixer_opened c
 lines_shut c lines scenes same is opens =
-    shut_lines c (subst (OpensScenes None) same (subst (λ o. OpensScenes o lines) is opens))
+    shut_lines c (subst (OpensLines None) same (subst (λ o. OpensLines o lines) is opens))
 
 pub program_opened : (g : GraphState) (name : List ℕ) (on : Option (GraphModel × ℕ))
     (made : GraphModel) (x : ℕ) → on ≡ Some (made, x) → OpensProgram on g name →
@@ -320,7 +388,7 @@ pub program_opened : (g : GraphState) (name : List ℕ) (on : Option (GraphModel
 program_opened g name on made x is opens = subst (λ o. OpensProgram o g name) is opens
 
 pub program_shut : (c : Collection) (m : GraphModel) (on : Option (GraphModel × ℕ)) →
-    OpensScenes (Some m) c.lines → on ≡ None → OpensProgram on m.present c.program →
+    OpensLines (Some m) c.lines → on ≡ None → OpensProgram on m.present c.program →
     None ≡ mixer_opened c
 program_shut c m on lines is opens =
     shut_program c m.present lines.2 (subst (λ o. OpensProgram o m.present c.program) is opens)

@@ -8,7 +8,8 @@ use Rattle.mix_engine.specs.Mixings.{Mixed}
 use Rattle.mix_engine.specs.Openings.{can_open, mixer_opened}
 use Rattle.mix_engine.specs.Engines.{engine_of, opened, are_limits}
 use Rattle.mix_engine.specs.Replayed.{Replayed}
-use Rattle.mix_engine.proofs.Replays.{replays_nothing}
+use Rattle.mix_engine.specs.Listeners.{waiting_for}
+use Rattle.mix_engine.specs.Spoken.{ItemsWithin}
 
 -- the mixer that opens is the one that a collection starts with
 opened_start : (setup : Setup) (m : Mixer) → Some m ≡ mixer_opened setup.collection →
@@ -37,15 +38,31 @@ engine_unopened setup = elim (can_open setup.collection)
     None ≡ cond b (Some (opened setup)) None)
     [ true ↦ λ is. cc | false ↦ λ is. refl ]
 
+-- nothing was done yet
+opens_replayed : (start : Mixer) (mixed : Mixed) → mixed.mixer ≡ start → mixed.listeners ≡ [] →
+    mixed.mixer.next_conn ≡ 1 → mixed.mixer.studio.graph.next_serial ≤ 513 →
+    mixed.mixer.studio.graph.clock ≡ 0 → ItemsWithin 2049 mixed.mixer.studio.graph →
+    Replayed start [] mixed 0
+opens_replayed start mixed same nobody conn serial begins items = record {
+  state = same;
+  queues = λ number. ap (waiting_for number) nobody;
+  bytes = refl;
+  conns = omega arith;
+  serials = omega arith;
+  clock = omega arith;
+  items = items;
+}
+
 -- an empty journal is replayed by the mixer that opens
 pub opening_replayed : (setup : Setup) (m : Mixed) (journal : List Entry) → journal ≡ [] →
     Some m.mixer ≡ mixer_opened setup.collection → m.listeners ≡ [] → m.mixer.next_conn ≡ 1 →
-    m.mixer.studio.graph.next_serial ≤ 513 → IsTrue (are_limits setup.limits) →
+    m.mixer.studio.graph.next_serial ≤ 513 → m.mixer.studio.graph.clock ≡ 0 →
+    ItemsWithin 2049 m.mixer.studio.graph → IsTrue (are_limits setup.limits) →
     Replayed (start_of setup.collection) journal m 0 × IsTrue (are_limits setup.limits)
     × (length journal ≤ setup.limits.turns) × (0 ≤ setup.limits.bytes)
-opening_replayed setup m journal empty is nobody conns serials limits = rw empty (
-  replays_nothing (start_of setup.collection) m 0 (opened_start setup m.mixer is) nobody refl conns
-      serials,
+opening_replayed setup m journal empty is nobody conns serials clock items limits = rw empty (
+  opens_replayed (start_of setup.collection) m (opened_start setup m.mixer is) nobody conns serials
+      clock items,
   limits,
   omega arith,
   omega arith,

@@ -1,41 +1,48 @@
 -- Opening a collection: lines are done one by one, and nothing has to be settled.
-use Rattle.std.proofs.Common.{◌≡◌, ◌≢◌, ℕ, ◌+◌, ◌<◌, ◌≤◌, Bool, true, false, cond, List, [], ◌∷◌}
+use Rattle.std.proofs.Common.{◌≡◌, ◌≢◌, ℕ, ◌<◌, Bool, true, false, cond, List, [], ◌∷◌}
 use Rattle.std.proofs.Common.{length, map, filter, All, Option, Some, None, refl, sym, ap, ◌∙◌}
-use Rattle.std.proofs.Common.{◌++◌, Err, subst, arith, not, get_or, ◌&&◌, ◌==◌, eq-eqb}
+use Rattle.std.proofs.Common.{◌++◌, Err, subst, not, get_or, ◌&&◌}
 use Rattle.std.specs.Option.{is_none}
-use Rattle.std.proofs.lemmas.Bool.{ltb-false}
-use Rattle.std.proofs.lemmas.List.{append-nil, length-append}
-use Rattle.std.proofs.lemmas.List.Folds.{list_any-append}
-use Rattle.std.proofs.lemmas.List.Elements.{All-nil, All-head, All-tail, All-push}
+use Rattle.std.proofs.Common.{IsTrue}
+use Rattle.std.proofs.lemmas.List.{append-nil}
+use Rattle.std.proofs.lemmas.List.Elements.{All-head, All-tail}
 use Rattle.mix_model.specs.declared.fault.GraphFault.{GraphFault}
 use Rattle.mix_model.specs.declared.fault.GraphFault.TheVariants.{NotFound, WrongKind, Exists}
 use Rattle.mix_model.specs.declared.fault.GraphFault.TheVariants.{Cycle, Depth, TooMany, NoMemory}
 use Rattle.mix_graph.specs.Refused.{RefusedBy}
-use Rattle.mix_model.specs.declared.kind.Kind.TheVariants.{Scene}
-use Rattle.mix_model.specs.declared.settings.Settings.TheVariants.{None as NoSettings}
+use Rattle.mix_model.specs.declared.kind.Kind.{Kind}
+use Rattle.mix_model.specs.declared.item.ItemSpec.{ItemSpec}
+use Rattle.mix_model.specs.declared.settings.Settings.{Settings}
 use Rattle.mix_model.specs.declared.collection.Line.{Line}
 use Rattle.mix_model.specs.declared.collection.Line.TheVariants.{Scene as SceneLine}
+use Rattle.mix_model.specs.declared.collection.Line.TheVariants.{Input as InputLine}
+use Rattle.mix_model.specs.declared.collection.Line.TheVariants.{Item as ItemLine}
 use Rattle.mix_model.specs.declared.row.Row.{Row}
-use Rattle.mix_base.specs.Limits.{standard}
 use Rattle.mix_model.specs.Sets.{has}
-use Rattle.mix_model.specs.Rows.{serials_of, new_row}
-use Rattle.mix_model.specs.Values.{new_sound}
+use Rattle.mix_model.specs.Rows.{serials_of}
+use Rattle.mix_model.specs.Rows.{is_input}
+use Rattle.mix_model.specs.Lookups.{registry}
+use Rattle.mix_model.specs.Values.{are_settings, is_place}
+use Rattle.mix_model.specs.Collections.{line_fits}
+use Rattle.mix_model.specs.declared.kind.Blend.{Blend}
+use Rattle.mix_model.specs.declared.place.Place.{Place}
 use Rattle.mix_model.specs.State.{GraphState}
 use Rattle.mix_model.specs.Holders.{is_held}
 use Rattle.mix_model.specs.Walks.{is_active}
-use Rattle.mix_model.specs.Edits.{scene_created, empty_graph}
+use Rattle.mix_model.specs.Edits.{scene_created, input_created, item_added, empty_graph}
 use Rattle.mix_model.specs.Lines.{line_cause, line_done, line_early, line_late, lines_done, unless}
+use Rattle.mix_model.specs.Lines.{serial_named}
 use Rattle.std.proofs.Math.Seq.{drop-cons}
 use Rattle.std.specs.List.{list_all}
 use Rattle.std.specs.Prelude.{is_ok, drop, suc}
 use Rattle.mix_model.specs.Settle.{newly_dying}
 use Rattle.mix_model.specs.Marks.{GraphModel, edited, settled_by, row_settled}
-use Rattle.mix_model.specs.Ranks.{weights_within}
-use Rattle.mix_model.specs.Causes.{Cause, first_cause, cause_or, scene_cause, source_early}
-use Rattle.mix_model.specs.Causes.{late_cause, too_deep, above, item_count}
-use Rattle.mix_model.proofs.SetLemmas.{or_left, or_right}
-use Rattle.mix_engine.specs.Scenery.{HasScenes}
+use Rattle.mix_model.specs.Causes.{cause_or, scene_cause, source_early}
+use Rattle.mix_model.specs.Causes.{late_cause, item_cause}
+use Rattle.mix_model.proofs.SetLemmas.{or_left, and_both, and_first, and_second}
 use Rattle.mix_engine.specs.Openings.{IsFresh, Adds, is_line_built, are_lines_built}
+use Rattle.mix_engine.specs.Openings.{Fits}
+use Rattle.mix_engine.proofs.FreshLemmas.{now_are, scene_more, input_more, item_more}
 
 -- a number that is set to 0, or to a clock that stands at 0
 same_since : (r : Row) (active : Bool) (clock : ℕ) → clock ≡ 0 → r.since ≡ 0 →
@@ -60,10 +67,9 @@ rows_kept g (r ∷ rows) clock unmarked =
     ∙ ap (λ l. r ∷ l) (rows_kept g rows clock (All-tail (λ r. r.since ≡ 0) r rows unmarked))
 
 -- what is registered is held
-registered_held : (g : GraphState) (x : ℕ) → has x g.scenes ≡ true → is_held g x ≡ true
+registered_held : (g : GraphState) (x : ℕ) → has x (registry g) ≡ true → is_held g x ≡ true
 unfolding is_held
-registered_held g x registered = or_left _ _
-    (list_any-append (λ y. y == x) g.scenes g.inputs ∙ or_left _ _ registered)
+registered_held g x registered = or_left _ _ registered
 
 -- the test by which a row begins to die
 abbrev begins_to_die : GraphState → ℕ → Bool
@@ -80,17 +86,17 @@ first_out test x xs fails = ap (λ b. cond b (x ∷ filter test xs) (filter test
 
 -- so nothing begins to die
 none_dies : (g : GraphState) (rows : List Row) →
-    All (λ r. has r.serial g.scenes ≡ true) rows →
+    All (λ r. has r.serial (registry g) ≡ true) rows →
     filter (begins_to_die g) (serials_of rows) ≡ []
 none_dies g [] registered = refl
 none_dies g (r ∷ rows) registered =
     first_out (begins_to_die g) r.serial (serials_of rows) (held_stays g r.serial
-    (registered_held g r.serial (All-head (λ r. has r.serial g.scenes ≡ true) r rows registered)))
-    ∙ none_dies g rows (All-tail (λ r. has r.serial g.scenes ≡ true) r rows registered)
+    (registered_held g r.serial (All-head (λ r. has r.serial (registry g) ≡ true) r rows registered)))
+    ∙ none_dies g rows (All-tail (λ r. has r.serial (registry g) ≡ true) r rows registered)
 
 -- where the clock stands at 0 and all is registered, there is nothing to settle
 pub settled_already : (g : GraphState) → g.clock ≡ 0 → All (λ r. r.since ≡ 0) g.rows →
-    All (λ r. has r.serial g.scenes ≡ true) g.rows → settled_by [] g ≡ g
+    All (λ r. has r.serial (registry g) ≡ true) g.rows → settled_by [] g ≡ g
 unfolding settled_by newly_dying
 settled_already g clock unmarked registered =
     let stays : g.dying ++ newly_dying g ≡ g.dying =
@@ -98,97 +104,6 @@ settled_already g clock unmarked registered =
     ap (λ l. let h : GraphState = record g { rows = l; dying = g.dying ++ newly_dying g } in h)
     (rows_kept g g.rows clock unmarked)
     ∙ ap (λ l. let h : GraphState = record g { dying = l } in h) stays
-
--- where there is no cause, the second test isn't passed
-second_out : (a b : Cause) (rest : List Cause) → first_cause (a ∷ (b ∷ rest)) ≡ None →
-    b.0 ≡ false
-second_out (true, x) b rest is = cc
-second_out (false, x) (true, y) rest is = cc
-second_out (false, x) (false, y) rest is = refl
-
--- no more rows than there may be
-few_rows : (g : GraphState) → late_cause g ≡ None → length g.rows ≤ 512
-unfolding late_cause
-few_rows g is = ltb-false 512 (length g.rows) (second_out (too_deep g)
-    (above standard.rows (length g.rows)) (above standard.items (item_count g.rows)
-    ∷ ((not (weights_within standard.weight g), TooMany standard.weight) ∷ [])) is)
-
--- what is there is there with one more, and so is that one
-has_more : (x y : ℕ) (xs : List ℕ) → has x xs ≡ true → has x (xs ++ y ∷ []) ≡ true
-has_more x y xs there = list_any-append (λ z. z == x) xs (y ∷ []) ∙ or_left _ _ there
-
-has_last : (x : ℕ) (xs : List ℕ) → has x (xs ++ x ∷ []) ≡ true
-has_last x xs = list_any-append (λ z. z == x) xs (x ∷ [])
-    ∙ or_right _ _ (or_left _ _ (eq-eqb x x refl))
-
--- each is below a number, and so is that number below the next one
-below_next : (xs : List ℕ) (n : ℕ) → All (λ x. x < n) xs → All (λ x. x < n + 1) (xs ++ n ∷ [])
-below_next xs n below = All-push (λ x. x < n + 1) xs n
-    (λ k d within. let least : get_or xs k d < n = below k d within in omega arith) (omega arith)
-
--- the scenes are as they should be with one more
-scenes_more : (name : List ℕ) (g : GraphState) → HasScenes g → HasScenes (scene_created name g)
-unfolding scene_created
-scenes_more name g before = record {
-  given = below_next g.scenes g.next_serial before.given;
-  few = (let longer = length-append g.scenes (g.next_serial ∷ []) in
-      let few : length g.scenes < g.next_serial = before.few in omega arith);
-  preview = before.preview;
-}
-
--- sources with one scene more
-abbrev with_scene : List ℕ → GraphModel → GraphModel
-with_scene name m = record m { present = scene_created name m.present }
-
--- sources with one scene more are as fresh
-fresh_more : (m : GraphModel) (name : List ℕ) → IsFresh m →
-    late_cause (scene_created name m.present) ≡ None → IsFresh (with_scene name m)
-unfolding scene_created new_row
-fresh_more m name fresh room =
-    let g : GraphState = m.present in
-    let row : Row = new_row g.next_serial name Scene NoSettings new_sound in
-    let rows : length (g.rows ++ row ∷ []) ≤ 512 = few_rows (scene_created name g) room in
-    let longer : length (g.rows ++ row ∷ []) ≡ length g.rows + 1 =
-    length-append g.rows (row ∷ []) in
-    let counted : g.next_serial ≡ length g.rows + 1 = fresh.serials in
-    record {
-      begun = fresh.begun;
-      clock = fresh.clock;
-      unmarked = All-push (λ r. r.since ≡ 0) g.rows row fresh.unmarked refl;
-      registered = All-push (λ r. has r.serial (g.scenes ++ g.next_serial ∷ []) ≡ true)
-          g.rows row (λ k d within. has_more (get_or g.rows k d).serial g.next_serial g.scenes
-          (fresh.registered k d within)) (has_last g.next_serial g.scenes);
-      low = All-push (λ r. r.serial ≤ 512) g.rows row fresh.low (omega arith);
-      scenes = scenes_more name g fresh.scenes;
-      serials = omega arith;
-      few = rows;
-    }
-
--- no sources
-abbrev no_sources : GraphModel
-no_sources = record { begun = []; present = empty_graph }
-
--- nothing happened to them
-none_fresh : IsFresh no_sources
-unfolding empty_graph
-none_fresh = record {
-  begun = refl;
-  clock = refl;
-  unmarked = All-nil (λ r. r.since ≡ 0);
-  registered = All-nil (λ r. has r.serial [] ≡ true);
-  low = All-nil (λ r. r.serial ≤ 512);
-  scenes = record { given = All-nil (λ x. x < 1); few = omega arith; preview = refl };
-  serials = refl;
-  few = omega arith;
-}
-
--- nothing is there yet
-pub fresh_empty : (m : GraphModel) → m.begun ≡ [] → m.present ≡ empty_graph → IsFresh m
-fresh_empty m begun present =
-    let same : no_sources ≡ m =
-    ap (λ b. let n : GraphModel = record { begun = b; present = empty_graph } in n) (sym begun)
-    ∙ ap (λ g. let n : GraphModel = record m { present = g } in n) (sym present) in
-    subst IsFresh same none_fresh
 
 -- what comes late where nothing comes
 late_too : (early late : Option GraphFault) → cause_or early late ≡ None → late ≡ None
@@ -205,62 +120,123 @@ edit_alone m g edit begun is rests =
     ∙ ap (λ h. let n : GraphModel = record m { present = h } in n)
     (ap (settled_by []) is ∙ rests)
 
--- what the line of a scene tells, where it is not refused
-scene_line : (m : GraphModel) (name : List ℕ) → IsFresh m →
-    scene_cause m.present name (scene_created name m.present) ≡ None →
-    Adds true m.present (SceneLine name) (with_scene name m)
-unfolding line_done line_early line_late
-scene_line m name fresh cause = (
-  fresh_more m name fresh (late_too
-      (source_early m.present name) (late_cause (scene_created name m.present)) cause),
-  refl,
-  cause,
-  refl,
-)
+-- where such sources are fresh there is nothing to settle
+fresh_settled : (m : GraphModel) (g : GraphState) → IsFresh (now_are m g) → settled_by [] g ≡ g
+fresh_settled m g fresh = settled_already g fresh.clock
+    (λ k d within. (fresh.rows k d within).unmarked)
+    (λ k d within. (fresh.rows k d within).known)
+
+-- an edit of fresh sources that leaves what a line does, where the line isn't refused
+line_added : (m new : GraphModel) (line : Line) (edit : GraphState → GraphState) → IsFresh m →
+    IsFresh (now_are m (edit m.present)) → is_line_built line ≡ true →
+    line_cause m.present line ≡ None → line_done m.present line ≡ edit m.present →
+    new ≡ edited edit m → Adds true m.present line new
+line_added m new line edit fresh more built cause done made =
+    let same : now_are m (edit m.present) ≡ new = sym (made ∙ edit_alone m (edit m.present) edit
+    fresh.begun refl (fresh_settled m (edit m.present) more)) in
+    subst (Adds true m.present line) same (more, built, cause, sym done)
 
 -- a scene that is made in fresh sources leaves what its line does
-pub scene_fresh : (m new : GraphModel) (line : Line) (name : List ℕ) → IsFresh m →
-    line ≡ SceneLine name →
+pub scene_fresh : (m new : GraphModel) (name : List ℕ) → IsFresh m →
     scene_cause m.present name (scene_created name m.present) ≡ None →
-    new ≡ edited (scene_created name) m → Adds true m.present line new
-scene_fresh m new line name fresh is cause made =
-    let more : IsFresh (with_scene name m) = fresh_more m name fresh (late_too
-    (source_early m.present name) (late_cause (scene_created name m.present)) cause) in
-    let same : with_scene name m ≡ new = sym (made ∙ edit_alone m
-    (scene_created name m.present) (scene_created name) fresh.begun refl
-    (settled_already (scene_created name m.present) more.clock more.unmarked more.registered)) in
-    subst (λ l. Adds true m.present l new) (sym is)
-    (subst (Adds true m.present (SceneLine name)) same (scene_line m name fresh cause))
-
--- and where it is refused
-refused_line : (g : GraphState) (name : List ℕ) →
-    is_none (scene_cause g name (scene_created name g)) ≡ false →
-    (is_line_built (SceneLine name) && is_none (line_cause g (SceneLine name))) ≡ false
+    new ≡ edited (scene_created name) m → Adds true m.present (SceneLine name) new
 unfolding line_done line_early line_late
-refused_line g name cause = cause
+scene_fresh m new name fresh cause made = line_added m new (SceneLine name) (scene_created name)
+    fresh (scene_more m name fresh (late_too (source_early m.present name)
+    (late_cause (scene_created name m.present)) cause)) refl cause refl made
+
+-- and so does an input
+pub input_fresh : (m new : GraphModel) (kind : Kind) (name : List ℕ) (settings : Settings) →
+    IsFresh m →
+    scene_cause m.present name (input_created name kind settings m.present) ≡ None →
+    new ≡ edited (input_created name kind settings) m →
+    Adds true m.present (InputLine kind name settings) new
+unfolding line_done line_early line_late
+input_fresh m new kind name settings fresh cause made =
+    line_added m new (InputLine kind name settings) (input_created name kind settings)
+    fresh (input_more m name kind settings fresh (late_too (source_early m.present name)
+    (late_cause (input_created name kind settings m.present)) cause)) refl cause refl made
+
+-- and an item
+pub item_fresh : (m new : GraphModel) (parent child : List ℕ) (x y : ℕ) (spec : ItemSpec) →
+    IsFresh m → x ≡ serial_named m.present parent → y ≡ serial_named m.present child →
+    item_cause m.present x y (item_added x y spec m.present) ≡ None →
+    new ≡ edited (item_added x y spec) m → Adds true m.present
+    (ItemLine parent child spec.enabled spec.locked spec.place spec.blend) new
+unfolding line_done line_early line_late
+item_fresh m new parent child x y spec fresh first second cause made =
+    let line : Line = ItemLine parent child spec.enabled spec.locked spec.place spec.blend in
+    line_added m new line (item_added x y spec) fresh (item_more m x y spec fresh) refl
+    (ap (λ z. item_cause m.present z (serial_named m.present child)
+    (item_added z (serial_named m.present child) spec m.present)) (sym first)
+    ∙ ap (λ z. item_cause m.present x z (item_added x z spec m.present)) (sym second) ∙ cause)
+    (ap (λ z. item_added z (serial_named m.present child) spec m.present) (sym first)
+    ∙ ap (λ z. item_added x z spec m.present) (sym second)) made
 
 -- a cause for a line that is refused
-refused_for : (cause : Option GraphFault) (fault : GraphFault) → fault ≢ NoMemory →
-    RefusedBy {T = ℕ} cause (Err fault) → is_none cause ≡ false
-refused_for cause NotFound other is = ap is_none is
-refused_for cause WrongKind other is = ap is_none is
-refused_for cause Exists other is = ap is_none is
-refused_for cause Cycle other is = ap is_none is
-refused_for cause Depth other is = ap is_none is
-refused_for cause (TooMany limit) other is = ap is_none is
-refused_for cause NoMemory other is = absurd (other refl)
+refused_for : (T : Type 0) (cause : Option GraphFault) (fault : GraphFault) → fault ≢ NoMemory →
+    RefusedBy {T = T} cause (Err fault) → is_none cause ≡ false
+refused_for T cause NotFound other is = ap is_none is
+refused_for T cause WrongKind other is = ap is_none is
+refused_for T cause Exists other is = ap is_none is
+refused_for T cause Cycle other is = ap is_none is
+refused_for T cause Depth other is = ap is_none is
+refused_for T cause (TooMany limit) other is = ap is_none is
+refused_for T cause NoMemory other is = absurd (other refl)
 
 -- a scene that is refused
-pub scene_refused : (g : GraphState) (line : Line) (name : List ℕ) (fault : GraphFault) →
-    line ≡ SceneLine name → fault ≢ NoMemory →
-    RefusedBy {T = ℕ} (scene_cause g name (scene_created name g)) (Err fault) →
-    (is_line_built line && is_none (line_cause g line)) ≡ false
-scene_refused g line name fault is other refused =
-    subst (λ l. (is_line_built l && is_none (line_cause g l)) ≡ false) (sym is)
-    (refused_line g name
-    (refused_for (scene_cause g name (scene_created name g)) fault other refused))
+pub scene_refused : (T : Type 0) (g : GraphState) (name : List ℕ) (fault : GraphFault) →
+    fault ≢ NoMemory →
+    RefusedBy {T = T} (scene_cause g name (scene_created name g)) (Err fault) →
+    (is_line_built (SceneLine name) && is_none (line_cause g (SceneLine name))) ≡ false
+unfolding line_done line_early line_late
+scene_refused T g name fault other refused =
+    refused_for T (scene_cause g name (scene_created name g)) fault other refused
 
--- lines with one that isn't built, or is refused, open not_so scenes
+-- an input
+pub input_refused : (T : Type 0) (g : GraphState) (kind : Kind) (name : List ℕ)
+    (settings : Settings) (fault : GraphFault) → fault ≢ NoMemory →
+    RefusedBy {T = T} (scene_cause g name (input_created name kind settings g)) (Err fault) →
+    (is_line_built (InputLine kind name settings)
+    && is_none (line_cause g (InputLine kind name settings))) ≡ false
+unfolding line_done line_early line_late
+input_refused T g kind name settings fault other refused =
+    refused_for T (scene_cause g name (input_created name kind settings g)) fault other refused
+
+-- and an item
+pub item_refused : (T : Type 0) (g : GraphState) (parent child : List ℕ) (x y : ℕ)
+    (spec : ItemSpec) (fault : GraphFault) → fault ≢ NoMemory →
+    x ≡ serial_named g parent → y ≡ serial_named g child →
+    RefusedBy {T = T} (item_cause g x y (item_added x y spec g)) (Err fault) →
+    (is_line_built (ItemLine parent child spec.enabled spec.locked spec.place spec.blend)
+    && is_none (line_cause g
+    (ItemLine parent child spec.enabled spec.locked spec.place spec.blend))) ≡ false
+unfolding line_done line_early line_late
+item_refused T g parent child x y spec fault other first second refused =
+    ap (λ z. is_none (item_cause g z (serial_named g child)
+    (item_added z (serial_named g child) spec g))) (sym first)
+    ∙ ap (λ z. is_none (item_cause g x z (item_added x z spec g))) (sym second)
+    ∙ refused_for T (item_cause g x y (item_added x y spec g)) fault other refused
+
+-- the values of a line that fits
+pub input_fits : (line : Line) (kind : Kind) (name : List ℕ) (settings : Settings) →
+    line ≡ InputLine kind name settings → Fits line →
+    IsTrue (is_input kind && are_settings kind settings)
+unfolding line_fits
+input_fits line kind name settings is fits =
+    let all : line_fits (InputLine kind name settings) ≡ true = ap line_fits (sym is) ∙ fits in
+    and_both (is_input kind) (are_settings kind settings)
+    (and_second _ _ (and_first _ _ all)) (and_second _ _ all)
+
+pub item_fits : (line : Line) (parent child : List ℕ) (enabled locked : Bool) (place : Place)
+    (blend : Blend) → line ≡ ItemLine parent child enabled locked place blend → Fits line →
+    IsTrue (is_place place)
+unfolding line_fits
+item_fits line parent child enabled locked place blend is fits =
+    let all : line_fits (ItemLine parent child enabled locked place blend) ≡ true =
+    ap line_fits (sym is) ∙ fits in and_second _ _ all
+
+-- lines with one that isn't built, or is refused, open no sources
 stopped : (g : GraphState) (line : Line) (more : List Line) (built : Bool)
     (cause : Option GraphFault) → (built && is_none cause) ≡ false →
     ((built && list_all is_line_built more)

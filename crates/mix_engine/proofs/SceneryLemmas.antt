@@ -6,7 +6,14 @@ use Rattle.mix_model.specs.declared.fault.GraphFault.{GraphFault}
 use Rattle.mix_model.specs.State.{GraphState}
 use Rattle.mix_model.specs.Edits.{scene_created}
 use Rattle.mix_model.specs.Marks.{GraphModel, actions_begun, edited, settled_by}
-use Rattle.mix_engine.specs.Scenery.{HasScenes}
+use Rattle.std.proofs.lemmas.List.Elements.{All-push}
+use Rattle.mix_model.specs.declared.row.Row.{Row}
+use Rattle.mix_model.specs.Rows.{new_row}
+use Rattle.mix_model.specs.Settle.{settle}
+use Rattle.mix_model.specs.Shape.{GraphShape}
+use Rattle.mix_engine.specs.Scenery.{HasScenes, KeepsStudio}
+use Rattle.mix_engine.specs.Spoken.{ItemsWithin}
+use Rattle.mix_engine.proofs.EditLemmas.{begun_same, items_more, kept_by, left_settled, settled_items}
 
 -- each is below a number, and so is that number below the next one
 all_below : (xs : List ℕ) (n : ℕ) → All (λ x. x < n) xs → All (λ x. x < n + 1) (xs ++ n ∷ [])
@@ -67,3 +74,45 @@ module _ (old begun new : GraphModel) (name : List ℕ) (begins : begun ≡ acti
       ap (λ (m : GraphModel). m.present.next_serial) (err ∙ begins)
       ∙ ap (λ (g : GraphState). g.next_serial) (begun_present old) in
       omega arith
+
+-- the next ids of items, and what the studio's own shape is about
+module _ (g : GraphState) (name : List ℕ) where
+  pub made_items : (n : ℕ) → ItemsWithin n g →
+      ItemsWithin (n + 1) (settle g (scene_created name g))
+  unfolding scene_created new_row
+  made_items n all = settled_items g (scene_created name g) (n + 1)
+      (All-push (λ (r : Row). r.next_item ≤ n + 1) g.rows _ (items_more g n all) (omega arith))
+
+  pub made_keeps : (h : GraphState) → h ≡ settle g (scene_created name g) → GraphShape h →
+      KeepsStudio g h
+  unfolding settle scene_created
+  made_keeps h is shape = record {
+    shape = shape;
+    channels = ap (λ (s : GraphState). s.channels) is;
+    frames = ap (λ (s : GraphState). s.frames) is;
+    clock = ap (λ (s : GraphState). s.clock) is;
+  }
+
+pub same_keeps : (g h : GraphState) → h ≡ g → GraphShape h → KeepsStudio g h
+same_keeps g h is shape = record {
+  shape = shape;
+  channels = ap (λ (s : GraphState). s.channels) is;
+  frames = ap (λ (s : GraphState). s.frames) is;
+  clock = ap (λ (s : GraphState). s.clock) is;
+}
+
+-- an action that makes a scene, or refuses to
+module _ (old begun new : GraphModel) (name : List ℕ) (begins : begun ≡ actions_begun old) where
+  pub scene_items : (result : Result ℕ GraphFault) →
+      OnOk result (new ≡ edited (scene_created name) begun) → OnErr result (new ≡ begun) →
+      (n : ℕ) → ItemsWithin n old.present → ItemsWithin (n + 1) new.present
+  scene_items result ok err n all = kept_by (ItemsWithin (n + 1)) (scene_created name) old begun new
+      result begins ok err (items_more old.present n all) (made_items old.present name n all)
+
+  pub scene_keeps : (result : Result ℕ GraphFault) →
+      OnOk result (new ≡ edited (scene_created name) begun) → OnErr result (new ≡ begun) →
+      GraphShape new.present → KeepsStudio old.present new.present
+  scene_keeps (Ok serial) ok err shape = made_keeps old.present name new.present
+      (left_settled (scene_created name) old begun new begins ok) shape
+  scene_keeps (Err fault) ok err shape = same_keeps old.present new.present
+      (ap (λ (m : GraphModel). m.present) err ∙ begun_same old begun begins) shape

@@ -1,10 +1,10 @@
 -- The state and the trace after one entry more.
-use Rattle.std.proofs.Common.{◌≡◌, List, [], ◌∷◌, ◌++◌, map, refl, sym, ap, ◌∙◌}
+use Rattle.std.proofs.Common.{◌≡◌, List, [], ◌∷◌, ◌++◌, refl, ap, ◌∙◌}
 use Rattle.std.proofs.lemmas.List.{map-append}
 use Rattle.mix_model.specs.declared.action.Action.{Action}
 use Rattle.mix_model.specs.declared.action.Entry.{Entry}
 use Rattle.mix_engine.specs.Mixer.{Mixer}
-use Rattle.mix_engine.specs.Step.{outcome, after, step, steps}
+use Rattle.mix_engine.specs.Step.{outcome, step, steps}
 use Rattle.mix_engine.specs.Told.{happened}
 use Rattle.mix_engine.specs.Answers.{trace, actions_of, state_after}
 

@@ -1,6 +1,6 @@
 -- When an answer agrees with an entry of a history.
-use Rattle.std.specs.Prelude.{◌≡◌, ℕ, Bool, false, List, [], ◌∷◌, ◌++◌, ◌&&◌, map, length, nat_le}
-use Rattle.std.specs.Prelude.{Option, Some, None, All}
+use Rattle.std.specs.Prelude.{◌≡◌, ℕ, Bool, false, List, [], ◌∷◌, map, length, nat_le}
+use Rattle.std.specs.Prelude.{Some, None, All, IsTrue}
 use Rattle.std.specs.Option.{option_map_or}
 use Rattle.mix_events.specs.Sayable.{IsSayable}
 use Rattle.mix_model.specs.declared.action.Action.{Action}
@@ -11,12 +11,14 @@ use Rattle.mix_model.specs.declared.reply.Reply.TheVariants as reply
 use Rattle.mix_model.specs.declared.reply.Answer.{Answer}
 use Rattle.mix_model.specs.declared.draw.Shot.{Shot}
 use Rattle.mix_model.specs.declared.voice.Voice.{Voice}
-use Rattle.mix_model.specs.State.{Batch}
+use Rattle.mix_model.specs.State.{Batch, StudioState}
+use Rattle.mix_model.specs.Pictures.{picture_at}
+use Rattle.mix_model.specs.Plans.{is_shot, painted}
 use Rattle.mix_model.specs.declared.ask.Ask.{Ask}
 use Rattle.mix_model.specs.declared.ask.Done.{Done}
 use Rattle.mix_engine.specs.declared.own.Own.{Own}
 use Rattle.mix_engine.specs.declared.own.Own.TheVariants as own
-use Rattle.mix_engine.specs.Mixer.{Mixer, Connection}
+use Rattle.mix_engine.specs.Mixer.{Mixer}
 use Rattle.mix_engine.specs.Connections.{conn_at}
 use Rattle.mix_engine.specs.Outcomes.{Outcome}
 use Rattle.mix_engine.specs.Step.{outcome, after, steps}
@@ -45,9 +47,10 @@ abbrev pub is_due : Mixer → ℕ → Bool
 is_due s conn =
     option_map_or (λ c. first_due s.studio.graph.clock c.batches) (conn_at conn s.conns) false
 
--- an entry with all that an answer to it says
+-- an entry with all that an answer to it says: the studio in which it was found is what a frame shows
 pub record Answered : Type 0 where
   pub own : Own
+  pub found : StudioState
   pub told : List Said
   pub due : Bool
   pub stopping : Bool
@@ -66,6 +69,7 @@ due_after _ s = false
 abbrev pub answered : Mixer → List Happened → Outcome → Answered
 answered s before o = record {
   own = o.own;
+  found = s.studio;
   told = told_by o.own before (happened s o);
   due = due_after o.own (after s o);
   stopping = (after s o).notes.stop;
@@ -78,22 +82,28 @@ answer_to start journal action =
     let s : Mixer = state_after start journal in
     answered s (trace start (actions_of journal)) (outcome s action)
 
--- the reply says what the entry is answered. A frame and a block stand beside their numbers
-abbrev pub Replies : Own → List Said → Bool → Reply → Type 0
-Replies own.Full told due r = r ≡ reply.Full
-Replies (own.Gone conn) told due r = r ≡ reply.Gone conn
-Replies (own.Left conn) told due r = r ≡ reply.Left conn
-Replies (own.Told conn) told due r = r ≡ reply.Told conn told None due
-Replies (own.Closed conn code) told due r = r ≡ reply.Told conn told (Some code) due
-Replies (own.Frame number recording) told due r =
-    (shot : Shot) × (r ≡ reply.Frame number shot recording)
-Replies own.NoFrame told due r = r ≡ reply.NoFrame
-Replies (own.Block number recording) told due r =
+-- a shot that can be painted at a tick, and paints the picture of the studio then
+pub record Shows (found : StudioState) (tick : ℕ) (shot : Shot) : Type 0 where
+  pub paintable : IsTrue (is_shot tick shot)
+  pub picture : painted shot tick found.canvas ≡ picture_at found tick
+
+-- the reply says what the entry is answered. A frame has a shot of the studio in which it was taken. A
+-- block stands beside its number
+abbrev pub Replies : Own → StudioState → List Said → Bool → Reply → Type 0
+Replies own.Full found told due r = r ≡ reply.Full
+Replies (own.Gone conn) found told due r = r ≡ reply.Gone conn
+Replies (own.Left conn) found told due r = r ≡ reply.Left conn
+Replies (own.Told conn) found told due r = r ≡ reply.Told conn told None due
+Replies (own.Closed conn code) found told due r = r ≡ reply.Told conn told (Some code) due
+Replies (own.Frame number recording) found told due r =
+    (shot : Shot) × Shows found number shot × (r ≡ reply.Frame number shot recording)
+Replies own.NoFrame found told due r = r ≡ reply.NoFrame
+Replies (own.Block number recording) found told due r =
     (voices : List Voice) × (r ≡ reply.Block number voices recording)
-Replies (own.FrameGone number) told due r = r ≡ reply.FrameGone number
-Replies own.NoSuchFrame told due r = r ≡ reply.NoSuchFrame
-Replies (own.Destroyed serial) told due r = r ≡ reply.Destroyed serial
-Replies own.Nothing told due r = r ≡ reply.Nothing
+Replies (own.FrameGone number) found told due r = r ≡ reply.FrameGone number
+Replies own.NoSuchFrame found told due r = r ≡ reply.NoSuchFrame
+Replies (own.Destroyed serial) found told due r = r ≡ reply.Destroyed serial
+Replies own.Nothing found told due r = r ≡ reply.Nothing
 
 -- each text that is told can be said
 abbrev pub IsSayableReply : Reply → Type 0
@@ -102,6 +112,6 @@ IsSayableReply _ = Unit {0}
 
 -- the answer agrees with the entry
 pub record Agrees (answer : Answer) (entry : Answered) : Type 0 where
-  pub reply : Replies entry.own entry.told entry.due answer.reply
+  pub reply : Replies entry.own entry.found entry.told entry.due answer.reply
   pub stopping : answer.stopping ≡ entry.stopping
   pub dying : answer.dying ≡ entry.dying

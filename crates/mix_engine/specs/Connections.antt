@@ -1,5 +1,5 @@
 -- The open connections, and what actions make of them.
-use Rattle.std.specs.Prelude.{ℕ, ◌+◌, Bool, true, false, List, [], ◌∷◌, ◌++◌, ◌==◌, ◌||◌, not}
+use Rattle.std.specs.Prelude.{ℕ, Bool, false, List, [], ◌∷◌, ◌++◌, ◌==◌, not}
 use Rattle.std.specs.Prelude.{Option, Some, None, map, filter, find, if◌then◌else◌}
 use Rattle.mix_engine.specs.declared.attendance.Attendance.{Attendance}
 use Rattle.mix_engine.specs.declared.attendance.Attendance.TheVariants.{Same, Joins, Identifies}

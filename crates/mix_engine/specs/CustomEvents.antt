@@ -1,5 +1,5 @@
 -- The request on events of a controller's own.
-use Rattle.std.specs.Prelude.{ℕ, List, [], ◌∷◌, None, codes, Result, Ok, Err}
+use Rattle.std.specs.Prelude.{ℕ, [], ◌∷◌, None, codes, Result, Ok}
 use Rattle.mix_base.specs.Json.{Object}
 use Rattle.mix_json.specs.Fields.{◌>>=◌, need_kept}
 use Rattle.mix_model.specs.declared.body.Body.{Body}

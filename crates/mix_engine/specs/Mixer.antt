@@ -1,6 +1,5 @@
 -- The whole state of the mixer, and the one that it opens with.
-use Rattle.std.specs.Prelude.{◌≡◌, List, Option, Some, None, Result, Ok, Err}
-use Rattle.mix_base.specs.declared.limits.Limits.{Limits}
+use Rattle.std.specs.Prelude.{◌≡◌, Result, Ok, Err}
 use Rattle.mix_model.specs.declared.ask.Ask.{Ask}
 use Rattle.mix_model.specs.declared.ask.Done.{Done}
 use Rattle.mix_model.specs.declared.fault.GraphFault.{GraphFault}

@@ -1,9 +1,10 @@
 -- The mixer as the code keeps it.
-use Rattle.std.specs.Prelude.{◌≡◌, ℕ, ◌<◌, ◌^◌, List, All, Option, Some, None, option_map}
+use Rattle.std.specs.Prelude.{◌≡◌, ℕ, ◌<◌, ◌^◌, List, All, Option, Some, None}
 use Rattle.std.specs.Prelude.{map, if◌then◌else◌, IsTrue, is_some, false}
 use Rattle.mix_events.specs.Sayable.{IsSayableEvent}
 use Rattle.mix_model.specs.Opening.{no_notes}
 use Rattle.mix_model.specs.State.{GraphState}
+use Rattle.mix_model.specs.WholeShape.{StudioShape}
 use Rattle.mix_model.specs.declared.said.Said.TheVariants.{Identified}
 use Rattle.mix_session.specs.declared.heard.Heard.{Heard}
 use Rattle.mix_session.specs.declared.heard.Heard.TheVariants.{Say, Ask, Batch, Close}
@@ -58,12 +59,15 @@ pub record IsListener (next_conn : ℕ) (l : Listener) : Type 0 where
   pub deaf : IsDeafMask l.mask
   pub sayable : All IsSayableEvent l.waiting
 
--- the connections, the scenes and the program are as they should be
-pub record IsMixing (still : Still) (g : GraphState) (listeners : List Listener) (next_conn : ℕ)
-    : Type 0 where
+-- the connections and the scenes are as they should be, the studio has its shape, and the clock is
+-- kept once more
+pub record IsMixing (still : Still) (g : GraphState) (clock : ℕ) (listeners : List Listener)
+    (next_conn : ℕ) : Type 0 where
   pub listeners_are : All (IsListener next_conn) listeners
   pub scenes : HasScenes g
   pub program : still.program < 2 ^ 48
+  pub shape : StudioShape (studio_of still g)
+  pub clock_is : clock ≡ g.clock
 
 -- no batch of anybody is due
 abbrev pub IsIdle : Mixer → Type 0

@@ -5,7 +5,6 @@ use Rattle.mix_engine.specs.declared.attendance.Attendance.{Attendance}
 use Rattle.mix_engine.specs.declared.attendance.Attendance.TheVariants.{Same, Joins, Identifies}
 use Rattle.mix_engine.specs.declared.attendance.Attendance.TheVariants.{Leaves}
 use Rattle.mix_engine.specs.declared.own.Own.{Own}
-use Rattle.mix_engine.specs.Outcomes.{Outcome}
 use Rattle.mix_engine.specs.Told.{Happened, taken, is_entry_of, is_to}
 
 -- an entry of the connection itself empties its queue, since it is told all that waits; any other

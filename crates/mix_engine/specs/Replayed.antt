@@ -5,6 +5,7 @@ use Rattle.mix_engine.specs.Listeners.{Listener, waiting_for}
 use Rattle.mix_engine.specs.Mixer.{Mixer}
 use Rattle.mix_engine.specs.Mixings.{Mixed}
 use Rattle.mix_engine.specs.Queues.{queue}
+use Rattle.mix_engine.specs.Spoken.{ItemsWithin}
 use Rattle.mix_engine.specs.Told.{Happened}
 use Rattle.mix_engine.specs.Answers.{state_after, trace, actions_of}
 use Rattle.mix_engine.specs.Engines.{text_bytes}
@@ -21,3 +22,5 @@ pub record Replayed (start : Mixer) (journal : List Entry) (mixed : Mixed) (coun
   pub bytes : count ≡ text_bytes journal
   pub conns : mixed.mixer.next_conn ≤ length journal + 1
   pub serials : mixed.mixer.studio.graph.next_serial ≤ length journal + 513
+  pub clock : mixed.mixer.studio.graph.clock ≤ length journal
+  pub items : ItemsWithin (length journal + 2049) mixed.mixer.studio.graph

@@ -17,6 +17,8 @@ use Rattle.mix_engine.specs.Mixer.{Mixer}
 use Rattle.mix_engine.specs.Effects.{Effect}
 use Rattle.mix_engine.specs.Outcomes.{Outcome, only, unbuilt}
 use Rattle.mix_engine.specs.CustomEvents.{broadcast_custom_event}
+use Rattle.mix_engine.specs.InputRequests.{create_input}
+use Rattle.mix_engine.specs.ProgramRequests.{set_current_program_scene}
 use Rattle.mix_engine.specs.SceneRequests.{get_scene_list, create_scene}
 
 -- what a request comes to: its answer, its events, and what it leaves
@@ -65,15 +67,20 @@ unfoldable pub type_of : List ℕ → RequestType
 type_of kind =
     if bytes_eq kind (codes "GetSceneList") then type.GetSceneList
     else (if bytes_eq kind (codes "CreateScene") then type.CreateScene
+    else (if bytes_eq kind (codes "SetCurrentProgramScene") then type.SetCurrentProgramScene
+    else (if bytes_eq kind (codes "CreateInput") then type.CreateInput
     else (if bytes_eq kind (codes "BroadcastCustomEvent") then type.BroadcastCustomEvent
     else (if bytes_eq kind (codes "Sleep") then type.Sleep
-    else (if is_known kind then type.NotBuilt else type.Unknown))))
+    else (if is_known kind then type.NotBuilt else type.Unknown))))))
 
 -- the table of requests: the effect of each, or the status that it is answered with; a request that
--- isn't built yet has no line
+-- isn't built yet has no line, and a program that changes by fades isn't built either
 abbrev pub effect_of : StudioState → Notes → Body → RequestType → Option (Result Effect ℕ)
 effect_of s notes body type.GetSceneList = Some (get_scene_list s notes body)
 effect_of s notes body type.CreateScene = Some (create_scene s notes body)
+effect_of s notes body type.SetCurrentProgramScene =
+    if s.program.fades then None else Some (set_current_program_scene s notes body)
+effect_of s notes body type.CreateInput = Some (create_input s notes body)
 effect_of s notes body type.BroadcastCustomEvent = Some (broadcast_custom_event s notes body)
 effect_of s notes body type.Sleep = Some (Err 206)
 effect_of s notes body type.NotBuilt = None

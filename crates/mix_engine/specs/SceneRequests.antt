@@ -1,7 +1,6 @@
 -- The requests on scenes.
 use Rattle.std.specs.Prelude.{ℕ, pos, ◌+◌, List, [], ◌∷◌, ◌++◌, codes, is_some}
 use Rattle.std.specs.Prelude.{Option, Some, None, Result, Ok}
-use Rattle.std.specs.Option.{option_map_or}
 use Rattle.mix_base.specs.declared.json.Json.{Json}
 use Rattle.mix_base.specs.declared.json.Json.TheVariants as json
 use Rattle.mix_base.specs.Uuids.{uuid_of}
@@ -12,7 +11,6 @@ use Rattle.mix_model.specs.declared.fault.GraphFault.{GraphFault}
 use Rattle.mix_model.specs.declared.fault.GraphFault.TheVariants.{Exists, NoMemory}
 use Rattle.mix_model.specs.declared.notes.Notes.{Notes}
 use Rattle.mix_model.specs.State.{GraphState, StudioState}
-use Rattle.mix_model.specs.Lookups.{row_of}
 use Rattle.mix_model.specs.Holders.{has_name}
 use Rattle.mix_model.specs.Walks.{usable_preview}
 use Rattle.mix_model.specs.Edits.{scene_created}
@@ -21,11 +19,8 @@ use Rattle.mix_model.specs.Program.{target_of}
 use Rattle.mix_model.specs.Studio.{studio_settled}
 use Rattle.mix_json.specs.Trees.{obj_of}
 use Rattle.mix_engine.specs.Effects.{Effect, answer_of, only_asks, needed_fields, new_name}
+use Rattle.mix_engine.specs.Names.{name_at}
 use Rattle.mix_engine.specs.Settled.{settling_events}
-
--- the name of a row
-unfoldable pub name_at : GraphState → ℕ → List ℕ
-name_at g x = option_map_or (λ r. r.name) (row_of g x) []
 
 -- a scene by its name and its UUID, under these keys
 abbrev pub named_scene : List ℕ → List ℕ → GraphState → ℕ → List (List ℕ × Json)

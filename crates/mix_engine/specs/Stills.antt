@@ -1,4 +1,5 @@
--- The parts of the studio that no action built so far changes.
+-- The parts of the studio beside its sources: so far the program rests on a scene, and no action changes
+-- anything but which scene that is.
 use Rattle.mix_model.specs.State.{GraphState, StudioState, Rest}
 use Rattle.mix_model.specs.Recordings.{no_recording}
 use Rattle.mix_engine.specs.declared.still.Still.{Still}

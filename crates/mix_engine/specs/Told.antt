@@ -1,5 +1,5 @@
 -- What a connection is told: a definition over the whole history.
-use Rattle.std.specs.Prelude.{ℕ, Bool, true, false, List, [], ◌∷◌, ◌++◌, ◌==◌, not, map, filter}
+use Rattle.std.specs.Prelude.{ℕ, Bool, false, List, [], ◌∷◌, ◌++◌, ◌==◌, not, map, filter}
 use Rattle.std.specs.Prelude.{Option, Some, None, if◌then◌else◌, bit_and}
 use Rattle.std.specs.List.{flat_map, list_any}
 use Rattle.mix_model.specs.declared.event.Event.{Event}

@@ -4,9 +4,13 @@ ghost use Rattle.std.specs.Prelude.{is_some, length, nat_lt, nat_le};
 ghost use Rattle.mix_model.specs.declared.action.Action.{Action};
 ghost use Rattle.mix_engine.specs.Answers.{Agrees, Replies, answer_to, due_after, IsSayableReply};
 ghost use Rattle.mix_engine.specs.Built.{is_built};
-ghost use Rattle.mix_engine.specs.Spoken.{IsSaid, IsToConn};
+ghost use Rattle.mix_engine.specs.Heads.{head_of};
+ghost use Rattle.mix_engine.specs.Openings.{IsFitting};
+ghost use Rattle.mix_model.specs.State.{StudioState};
+ghost use Rattle.mix_model.specs.WholeShape.{StudioShape};
+ghost use Rattle.mix_engine.specs.Spoken.{HasShot, IsSaid};
 
-use crate::{ActFault, Full, Mixing, Own, Setup, Spoken};
+use crate::{ActFault, Full, Head, Mixing, Own, Setup, Spoken};
 use mix_base::{ListOf, NoMemory, PassNo};
 use mix_model::{Action, Answer, Entry, Reply};
 use mix_script::line_length;
@@ -58,9 +62,10 @@ impl Engine {
     ghost use Rattle.mix_engine.specs.Engines.{IsLineOf, text_bytes, with_full};
     ghost use Rattle.mix_engine.specs.declared.fault.ActFault.TheVariants.{HistoryFull};
 
-    /// Opens a collection: nobody is connected, and nothing was done. None where the collection
-    /// can't be opened.
+    /// Opens a collection whose values are in their ranges: nobody is connected, and nothing was
+    /// done. None where the collection can't be opened.
     pub fn open(alloc: Global, setup: Setup) -> Result<Option<Engine>, NoMemory>
+        requires fits { IsFitting setup.collection }
         requires limits { IsTrue (are_limits setup.limits) }
         ensures value { IfOk result (λ engine. engine ≡ engine_of setup) }
     {
@@ -140,6 +145,20 @@ impl Engine {
         self.mixing.canvas()
     }
 
+    /// The head of this recording's record.
+    pub fn head(&self, recording: u64) -> Head
+        ensures value { result ≡ head_of (present self.now).studio recording }
+    {
+        self.mixing.head(recording)
+    }
+
+    /// The studio has the shape of every studio, after each action. It does nothing.
+    pub fn has_shape(&self)
+        ensures shape { StudioShape (present self.now).studio }
+    {
+        self.mixing.has_shape();
+    }
+
     /// Whether the history has room for one more action, with a line of so many bytes.
     fn has_room(&self, line: u64) -> bool
         ensures value { (action : Action) → IsLineOf line action →
@@ -168,7 +187,8 @@ impl Engine {
     /// What a step is answered, in the state that it left.
     fn answer(&self, spoken: Spoken) -> Answer
         requires said { IsSaid spoken }
-        ensures reply { Replies spoken.own spoken.said.items
+        ensures reply { (found : StudioState) → HasShot spoken.own found spoken.shot →
+            Replies spoken.own found spoken.said.items
             (due_after spoken.own (present self.now)) result.reply }
         ensures stopping { result.stopping ≡ (present self.now).notes.stop }
         ensures dying { result.dying ≡ length (present self.now).studio.graph.dying }
@@ -196,10 +216,11 @@ impl Engine {
 /// The reply of a step that answers a connection.
 fn reply_of(spoken: Spoken, due: bool) -> Reply
     requires said { IsSaid spoken }
-    ensures reply { Replies spoken.own spoken.said.items due result }
+    ensures reply { (found : StudioState) → HasShot spoken.own found spoken.shot →
+        Replies spoken.own found spoken.said.items due result }
     ensures sayable { IsSayableReply result }
 {
-    let Spoken { own, said } = spoken;
+    let Spoken { own, said, shot } = spoken;
     match own {
         Own::Full => Reply::Full,
         Own::Gone { conn } => Reply::Gone { conn },
@@ -216,12 +237,17 @@ fn reply_of(spoken: Spoken, due: bool) -> Reply
             close: Some(code),
             due,
         },
-        Own::Frame { .. }
-        | Own::NoFrame
-        | Own::Block { .. }
-        | Own::FrameGone { .. }
-        | Own::NoSuchFrame
-        | Own::Destroyed { .. }
-        | Own::Nothing => unreachable!(),
+        Own::Frame { number, recording } => match shot {
+            Some(shot) => Reply::Frame {
+                number,
+                shot,
+                recording,
+            },
+            None => unreachable!(),
+        },
+        Own::NoFrame => Reply::NoFrame,
+        Own::FrameGone { number } => Reply::FrameGone { number },
+        Own::NoSuchFrame => Reply::NoSuchFrame,
+        Own::Block { .. } | Own::Destroyed { .. } | Own::Nothing => unreachable!(),
     }
 }

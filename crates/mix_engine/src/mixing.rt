@@ -1,13 +1,14 @@
 //! The mixer as it stands: one step is one action, and all of the state is here.
-ghost use Rattle.std.specs.Prelude.{◌≡◌, ◌+◌, ◌≤◌, [], IfOk, OnOk, OnErr, Some, None, false, true};
+ghost use Rattle.std.specs.Prelude.{◌≡◌, ℕ, ◌+◌, ◌≤◌, [], IfOk, OnOk, OnErr, Some, None, false, true};
 ghost use Rattle.std.specs.Prelude.{IfSome, IsTrue, is_some, length, map};
 ghost use Rattle.mix_events.specs.Sayable.{IsSayable};
 ghost use Rattle.mix_engine.specs.Answers.{is_due};
 ghost use Rattle.mix_engine.specs.Built.{is_deaf};
 ghost use Rattle.mix_engine.specs.Listeners.{conn_of, listener_at};
-ghost use Rattle.mix_engine.specs.Spoken.{Speaks, Says, HasNumbers, IsSaid};
+ghost use Rattle.mix_engine.specs.Spoken.{Speaks, Says, HasNumbers, IsSaid, ItemsWithin};
 
 use crate::requests::answer;
+use crate::spoken::silent;
 use crate::{Audience, Own, Spoken, Still};
 use mix_base::{Bytes32, ConnId, NoMemory};
 use mix_graph::Graph;
@@ -33,6 +34,8 @@ pub struct Mixing {
     pub(crate) still: Still,
     pub(crate) audience: Audience,
     pub(crate) next_conn: u32,
+    /// The clock of pictures, which the sources have too.
+    pub(crate) clock: u64,
 }
 
 impl Model for Mixing {
@@ -47,7 +50,7 @@ impl Model for Mixing {
     ghost view = { λ m. mixed_of m.still m.graph.present m.audience m.next_conn };
 
     ghost invariant = { λ m.
-        IsMixing m.still m.graph.present m.audience.listeners m.next_conn };
+        IsMixing m.still m.graph.present m.clock m.audience.listeners m.next_conn };
 }
 
 impl Mixing {
@@ -60,7 +63,8 @@ impl Mixing {
     pub fn act(&mut self, alloc: Global, action: &Action) -> Result<Option<Spoken>, NoMemory>
         requires numbers { HasNumbers self.old.mixer }
         ensures reply { IfOk result
-            (λ spoken. Speaks self.old.listeners spoken (comes_to self.old.mixer action.now)) }
+            (λ spoken. Speaks self.old.listeners self.old.mixer.studio spoken
+            (comes_to self.old.mixer action.now)) }
         ensures state { OnOk result
             (self.new ≡ mixed_after_any self.old (comes_to self.old.mixer action.now)) }
         ensures said { IfOk result (λ spoken. IfSome spoken IsSaid) }
@@ -68,6 +72,10 @@ impl Mixing {
         ensures conns { self.new.mixer.next_conn ≤ self.old.mixer.next_conn + 1 }
         ensures serials { self.new.mixer.studio.graph.next_serial
             ≤ self.old.mixer.studio.graph.next_serial + 1 }
+        ensures clock { self.new.mixer.studio.graph.clock
+            ≤ self.old.mixer.studio.graph.clock + 1 }
+        ensures items { (n : ℕ) → ItemsWithin n self.old.mixer.studio.graph →
+            ItemsWithin (n + 1) self.new.mixer.studio.graph }
         ensures err { OnErr result (self.new ≡ self.old) }
     {
         self.calm();
@@ -76,11 +84,9 @@ impl Mixing {
             Action::Hear { conn, message } => self.hear(alloc, *conn, message),
             Action::Poll { conn } => self.poll(alloc, *conn),
             Action::Leave { conn } => self.leave(alloc, *conn),
-            Action::BatchNext { .. }
-            | Action::VideoTick
-            | Action::AudioTick
-            | Action::FrameDone { .. }
-            | Action::Destroy => Ok(None),
+            Action::VideoTick => Ok(Some(self.tick(alloc)?)),
+            Action::FrameDone { number } => Ok(Some(self.give_back(alloc, *number))),
+            Action::BatchNext { .. } | Action::AudioTick | Action::Destroy => Ok(None),
         }
     }
 
@@ -129,13 +135,14 @@ impl Mixing {
     fn arrive(&mut self, alloc: Global, challenge: &Bytes32) -> Result<Option<Spoken>, NoMemory>
         requires numbers { HasNumbers self.old.mixer }
         ensures reply { IfOk result (λ spoken.
-            Speaks self.old.listeners spoken (comes_to self.old.mixer (Action.Arrive challenge.now))) }
+            Speaks self.old.listeners self.old.mixer.studio spoken
+            (comes_to self.old.mixer (Action.Arrive challenge.now))) }
         ensures state { OnOk result
-            (self.new ≡ mixed_after_any self.old (comes_to self.old.mixer (Action.Arrive challenge.now))) }
+            (self.new ≡ mixed_after_any self.old
+            (comes_to self.old.mixer (Action.Arrive challenge.now))) }
         ensures said { IfOk result (λ spoken. IfSome spoken IsSaid) }
         ensures conns { self.new.mixer.next_conn ≤ self.old.mixer.next_conn + 1 }
-        ensures serials { self.new.mixer.studio.graph.next_serial
-            ≡ self.old.mixer.studio.graph.next_serial }
+        ensures sources { self.new.mixer.studio.graph ≡ self.old.mixer.studio.graph }
         ensures err { OnErr result (self.new ≡ self.old) }
     {
         if self.audience.len() >= MOST_CONNS {
@@ -150,19 +157,20 @@ impl Mixing {
         Ok(Some(Spoken {
             own: Own::Told { conn },
             said,
+            shot: None,
         }))
     }
 
     /// A connection asks for what waits for it.
     fn poll(&mut self, alloc: Global, conn: ConnId) -> Result<Option<Spoken>, NoMemory>
         ensures reply { IfOk result (λ spoken.
-            Speaks self.old.listeners spoken (comes_to self.old.mixer (Action.Poll conn))) }
+            Speaks self.old.listeners self.old.mixer.studio spoken
+            (comes_to self.old.mixer (Action.Poll conn))) }
         ensures state { OnOk result
             (self.new ≡ mixed_after_any self.old (comes_to self.old.mixer (Action.Poll conn))) }
         ensures said { IfOk result (λ spoken. IfSome spoken IsSaid) }
         ensures conns { self.new.mixer.next_conn ≡ self.old.mixer.next_conn }
-        ensures serials { self.new.mixer.studio.graph.next_serial
-            ≡ self.old.mixer.studio.graph.next_serial }
+        ensures sources { self.new.mixer.studio.graph ≡ self.old.mixer.studio.graph }
         ensures err { OnErr result (self.new ≡ self.old) }
     {
         match self.audience.is_cut(conn) {
@@ -174,6 +182,7 @@ impl Mixing {
                 Ok(Some(Spoken {
                     own: Own::Told { conn },
                     said,
+                    shot: None,
                 }))
             }
         }
@@ -182,13 +191,13 @@ impl Mixing {
     /// A connection goes.
     fn leave(&mut self, alloc: Global, conn: ConnId) -> Result<Option<Spoken>, NoMemory>
         ensures reply { IfOk result (λ spoken.
-            Speaks self.old.listeners spoken (comes_to self.old.mixer (Action.Leave conn))) }
+            Speaks self.old.listeners self.old.mixer.studio spoken
+            (comes_to self.old.mixer (Action.Leave conn))) }
         ensures state { OnOk result
             (self.new ≡ mixed_after_any self.old (comes_to self.old.mixer (Action.Leave conn))) }
         ensures said { IfOk result (λ spoken. IfSome spoken IsSaid) }
         ensures conns { self.new.mixer.next_conn ≡ self.old.mixer.next_conn }
-        ensures serials { self.new.mixer.studio.graph.next_serial
-            ≡ self.old.mixer.studio.graph.next_serial }
+        ensures sources { self.new.mixer.studio.graph ≡ self.old.mixer.studio.graph }
         ensures err { OnErr result (self.new ≡ self.old) }
     {
         match self.audience.is_cut(conn) {
@@ -211,13 +220,18 @@ impl Mixing {
     ) -> Result<Option<Spoken>, NoMemory>
         requires numbers { HasNumbers self.old.mixer }
         ensures reply { IfOk result (λ spoken.
-            Speaks self.old.listeners spoken (comes_to self.old.mixer (Action.Hear conn message.now))) }
+            Speaks self.old.listeners self.old.mixer.studio spoken
+            (comes_to self.old.mixer (Action.Hear conn message.now))) }
         ensures state { OnOk result
-            (self.new ≡ mixed_after_any self.old (comes_to self.old.mixer (Action.Hear conn message.now))) }
+            (self.new ≡ mixed_after_any self.old
+            (comes_to self.old.mixer (Action.Hear conn message.now))) }
         ensures said { IfOk result (λ spoken. IfSome spoken IsSaid) }
         ensures conns { self.new.mixer.next_conn ≡ self.old.mixer.next_conn }
         ensures serials { self.new.mixer.studio.graph.next_serial
             ≤ self.old.mixer.studio.graph.next_serial + 1 }
+        ensures clock { self.new.mixer.studio.graph.clock ≡ self.old.mixer.studio.graph.clock }
+        ensures items { (n : ℕ) → ItemsWithin n self.old.mixer.studio.graph →
+            ItemsWithin (n + 1) self.new.mixer.studio.graph }
         ensures err { OnErr result (self.new ≡ self.old) }
     {
         match self.audience.is_cut(conn) {
@@ -241,13 +255,17 @@ impl Mixing {
         requires plain { IsPlain heard }
         requires is_there { is_some (listener_at conn self.old.listeners) ≡ true }
         ensures reply { IfOk result (λ spoken.
-            Speaks self.old.listeners spoken (comes_of self.old.mixer conn heard)) }
+            Speaks self.old.listeners self.old.mixer.studio spoken
+            (comes_of self.old.mixer conn heard)) }
         ensures state { OnOk result
             (self.new ≡ mixed_after_any self.old (comes_of self.old.mixer conn heard)) }
         ensures said { IfOk result (λ spoken. IfSome spoken IsSaid) }
         ensures conns { self.new.mixer.next_conn ≡ self.old.mixer.next_conn }
         ensures serials { self.new.mixer.studio.graph.next_serial
             ≤ self.old.mixer.studio.graph.next_serial + 1 }
+        ensures clock { self.new.mixer.studio.graph.clock ≡ self.old.mixer.studio.graph.clock }
+        ensures items { (n : ℕ) → ItemsWithin n self.old.mixer.studio.graph →
+            ItemsWithin (n + 1) self.new.mixer.studio.graph }
         ensures err { OnErr result (self.new ≡ self.old) }
     {
         match heard {
@@ -261,7 +279,8 @@ impl Mixing {
     /// A connection that isn't open is told so.
     fn gone(&mut self, alloc: Global, conn: ConnId) -> Spoken
         requires is_gone { listener_at conn self.old.listeners ≡ None }
-        ensures reply { Says self.old.listeners result (only self.old.mixer (Own.Gone conn) []) }
+        ensures reply { Says self.old.listeners self.old.mixer.studio result
+            (only self.old.mixer (Own.Gone conn) []) }
         ensures state { self.new ≡ mixed_after self.old (only self.old.mixer (Own.Gone conn) []) }
         ensures said { IsSaid result }
     {
@@ -272,14 +291,13 @@ impl Mixing {
     /// A connection is told what waits for it, and closed with a code.
     fn close(&mut self, alloc: Global, conn: ConnId, code: u16) -> Result<Option<Spoken>, NoMemory>
         requires is_there { is_some (listener_at conn self.old.listeners) ≡ true }
-        ensures reply { IfOk result (λ spoken. Speaks self.old.listeners spoken
+        ensures reply { IfOk result (λ spoken. Speaks self.old.listeners self.old.mixer.studio spoken
             (Some (closes self.old.mixer conn code))) }
         ensures state { OnOk result
             (self.new ≡ mixed_after self.old (closes self.old.mixer conn code)) }
         ensures said { IfOk result (λ spoken. IfSome spoken IsSaid) }
         ensures conns { self.new.mixer.next_conn ≡ self.old.mixer.next_conn }
-        ensures serials { self.new.mixer.studio.graph.next_serial
-            ≡ self.old.mixer.studio.graph.next_serial }
+        ensures sources { self.new.mixer.studio.graph ≡ self.old.mixer.studio.graph }
         ensures err { OnErr result (self.new ≡ self.old) }
     {
         let said = self.audience.waiting(alloc, conn, 0)?;
@@ -288,6 +306,7 @@ impl Mixing {
         Ok(Some(Spoken {
             own: Own::Closed { conn, code },
             said,
+            shot: None,
         }))
     }
 
@@ -303,13 +322,14 @@ impl Mixing {
         requires said { IsSayable said }
         requires is_there { is_some (listener_at conn self.old.listeners) ≡ true }
         ensures reply { IfOk result (λ spoken.
-            Speaks self.old.listeners spoken (comes_of self.old.mixer conn (Heard.Say said mask))) }
+            Speaks self.old.listeners self.old.mixer.studio spoken
+            (comes_of self.old.mixer conn (Heard.Say said mask))) }
         ensures state { OnOk result
-            (self.new ≡ mixed_after_any self.old (comes_of self.old.mixer conn (Heard.Say said mask))) }
+            (self.new ≡ mixed_after_any self.old
+            (comes_of self.old.mixer conn (Heard.Say said mask))) }
         ensures said { IfOk result (λ spoken. IfSome spoken IsSaid) }
         ensures conns { self.new.mixer.next_conn ≡ self.old.mixer.next_conn }
-        ensures serials { self.new.mixer.studio.graph.next_serial
-            ≡ self.old.mixer.studio.graph.next_serial }
+        ensures sources { self.new.mixer.studio.graph ≡ self.old.mixer.studio.graph }
         ensures err { OnErr result (self.new ≡ self.old) }
     {
         if !is_deaf(mask) {
@@ -322,6 +342,7 @@ impl Mixing {
         Ok(Some(Spoken {
             own: Own::Told { conn },
             said: all,
+            shot: None,
         }))
     }
 
@@ -331,19 +352,23 @@ impl Mixing {
         requires id { IsTrue (is_some ask.id) }
         requires is_there { is_some (listener_at conn self.old.listeners) ≡ true }
         ensures reply { IfOk result (λ spoken.
-            Speaks self.old.listeners spoken (comes_of self.old.mixer conn (Heard.Ask ask))) }
+            Speaks self.old.listeners self.old.mixer.studio spoken
+            (comes_of self.old.mixer conn (Heard.Ask ask))) }
         ensures state { OnOk result
             (self.new ≡ mixed_after_any self.old (comes_of self.old.mixer conn (Heard.Ask ask))) }
         ensures said { IfOk result (λ spoken. IfSome spoken IsSaid) }
         ensures conns { self.new.mixer.next_conn ≡ self.old.mixer.next_conn }
         ensures serials { self.new.mixer.studio.graph.next_serial
             ≤ self.old.mixer.studio.graph.next_serial + 1 }
+        ensures clock { self.new.mixer.studio.graph.clock ≡ self.old.mixer.studio.graph.clock }
+        ensures items { (n : ℕ) → ItemsWithin n self.old.mixer.studio.graph →
+            ItemsWithin (n + 1) self.new.mixer.studio.graph }
         ensures err { OnErr result (self.new ≡ self.old) }
     {
         let mut said = self.audience.waiting(alloc, conn, MOST_EVENTS + 1)?;
         self.audience.reserve(MOST_EVENTS)?;
         let mut twins = Vec::new(alloc);
-        let Some(done) = answer(alloc, &mut self.graph, self.still, ask, &mut twins)? else {
+        let Some(done) = answer(alloc, &mut self.graph, &mut self.still, ask, &mut twins)? else {
             return Ok(None);
         };
         self.audience.tell(conn, twins, &mut said);
@@ -352,6 +377,7 @@ impl Mixing {
         Ok(Some(Spoken {
             own: Own::Told { conn },
             said,
+            shot: None,
         }))
     }
 }
@@ -361,15 +387,4 @@ fn is_deaf(mask: u32) -> bool
     ensures value { result ≡ is_deaf mask }
 {
     mask & 131_072 == 0 && mask & 262_144 == 0
-}
-
-/// An answer that says nothing.
-fn silent(alloc: Global, own: Own) -> Spoken
-    ensures own { result.own ≡ own }
-    ensures said { result.said.items ≡ [] }
-{
-    Spoken {
-        own,
-        said: Vec::new(alloc),
-    }
 }

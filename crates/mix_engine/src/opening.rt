@@ -1,43 +1,56 @@
 //! Opening a collection.
-ghost use Rattle.std.specs.Prelude.{◌≡◌, ◌≤◌, ◌&&◌, [], IfOk, IfSome, option_map};
+ghost use Rattle.std.specs.Prelude.{◌≡◌, ◌≤◌, ◌&&◌, [], All, IfOk, IfSome, IsTrue, option_map};
+ghost use Rattle.mix_model.specs.Collections.{line_fits};
+ghost use Rattle.mix_model.specs.Lines.{serial_named};
 ghost use Rattle.mix_model.specs.Lookups.{row_passes};
 ghost use Rattle.mix_model.specs.Holders.{is_named};
-ghost use Rattle.mix_model.specs.Rows.{is_scene};
+ghost use Rattle.mix_model.specs.Rows.{is_scene, is_input};
+ghost use Rattle.mix_model.specs.Values.{is_place, are_settings};
 ghost use Rattle.mix_session.specs.SessionState.{secret_of};
 ghost use Rattle.mix_engine.specs.Openings.{mixer_opened, still_of};
-ghost use Rattle.mix_engine.specs.Openings.{IsFresh, Adds, OpensScenes, OpensProgram};
+ghost use Rattle.mix_engine.specs.Openings.{Fits, IsFitting};
+ghost use Rattle.mix_engine.specs.Openings.{IsFresh, Adds, OpensLines, OpensProgram};
+ghost use Rattle.mix_engine.specs.Spoken.{ItemsWithin};
 
 use crate::{Audience, Mixing, Still};
 use mix_base::{Bytes32, Limits, Name, NoMemory, Serial, Text};
 use mix_graph::Graph;
-use mix_model::{Collection, GraphFault, Kind, Line};
+use mix_model::{Collection, GraphFault, ItemSpec, Kind, Line, Settings};
 use mix_session::Secret;
 use std::alloc::Global;
 
 impl Mixing {
-    /// Opens a collection: nobody is connected. None where it can't be opened.
+    /// Opens a collection whose values are in their ranges: nobody is connected. None where it can't
+    /// be opened.
     pub fn open(alloc: Global, collection: &Collection) -> Result<Option<Mixing>, NoMemory>
+        requires fits { IsFitting collection.now }
         ensures value { IfOk result (λ mixing. option_map (λ m. m.mixer) mixing ≡ mixer_opened collection.now) }
         ensures serials { IfOk result
             (λ mixing. IfSome mixing (λ m. m.mixer.studio.graph.next_serial ≤ 513)) }
+        ensures clock { IfOk result
+            (λ mixing. IfSome mixing (λ m. m.mixer.studio.graph.clock ≡ 0)) }
+        ensures items { IfOk result
+            (λ mixing. IfSome mixing (λ m. ItemsWithin 2049 m.mixer.studio.graph)) }
         ensures conns { IfOk result (λ mixing. IfSome mixing (λ m. m.mixer.next_conn ≡ 1)) }
         ensures nobody { IfOk result (λ mixing. IfSome mixing (λ m. m.listeners ≡ [])) }
     {
         if collection.studio.is_some() {
             return Ok(None);
         }
-        let Some(graph) = open_scenes(alloc, collection.lines.as_slice())? else {
+        let Some(graph) = open_lines(alloc, collection.lines.as_slice())? else {
             return Ok(None);
         };
         let Some((graph, program)) = on_program(alloc, graph, &collection.program)? else {
             return Ok(None);
         };
+        graph.has_shape();
         let secret = secret_in(&collection.secret)?;
         Ok(Some(Mixing {
             graph,
             still: still_of(collection, program),
             audience: Audience::new(alloc, secret),
             next_conn: 1,
+            clock: 0,
         }))
     }
 }
@@ -71,13 +84,14 @@ fn secret_in(given: &Option<(Text, Bytes32)>) -> Result<Option<Secret>, NoMemory
     }
 }
 
-/// The scenes of lines; none where a line isn't built, or is refused.
-fn open_scenes(alloc: Global, lines: &[Line]) -> Result<Option<Graph>, NoMemory>
-    ensures value { IfOk result (λ graph. OpensScenes graph lines.now) }
+/// The sources of lines; none where a line isn't built, or is refused.
+fn open_lines(alloc: Global, lines: &[Line]) -> Result<Option<Graph>, NoMemory>
+    requires fits { All Fits lines.now }
+    ensures value { IfOk result (λ graph. OpensLines graph lines.now) }
 {
     let mut graph = Graph::new(alloc, Limits::standard());
     for line in lines {
-        if !add_line(&mut graph, line)? {
+        if !add_line(alloc, &mut graph, line)? {
             return Ok(None);
         }
     }
@@ -85,13 +99,44 @@ fn open_scenes(alloc: Global, lines: &[Line]) -> Result<Option<Graph>, NoMemory>
 }
 
 /// Does one line, and tells whether it is built and isn't refused.
-fn add_line(graph: &mut Graph, line: &Line) -> Result<bool, NoMemory>
+fn add_line(alloc: Global, graph: &mut Graph, line: &Line) -> Result<bool, NoMemory>
     requires fresh { IsFresh graph.old }
+    requires fits { Fits line.now }
     ensures added { IfOk result (λ added. Adds added graph.old.present line.now graph.new) }
 {
-    let Line::Scene { name } = line else {
-        return Ok(false);
-    };
+    match line {
+        Line::Scene { name } => add_scene(graph, name),
+        Line::Input {
+            kind,
+            name,
+            settings,
+        } => add_input(graph, *kind, name, settings.copy()?),
+        Line::Item {
+            parent,
+            child,
+            enabled,
+            locked,
+            place,
+            blend,
+        } => {
+            let spec = ItemSpec {
+                enabled: *enabled,
+                locked: *locked,
+                place: *place,
+                blend: *blend,
+            };
+            add_item(alloc, graph, parent, child, spec)
+        }
+        Line::Group { .. } | Line::Sound { .. } | Line::Channel { .. } => Ok(false),
+    }
+}
+
+/// Adds a scene, and tells whether it isn't refused.
+fn add_scene(graph: &mut Graph, name: &Name) -> Result<bool, NoMemory>
+    requires fresh { IsFresh graph.old }
+    ensures added { IfOk result
+        (λ added. Adds added graph.old.present (Line.Scene name.now) graph.new) }
+{
     match graph.create_scene(name.share()) {
         Ok(_) => Ok(true),
         Err(fault) => match fault {
@@ -101,14 +146,67 @@ fn add_line(graph: &mut Graph, line: &Line) -> Result<bool, NoMemory>
     }
 }
 
+/// Adds an input, and tells whether it isn't refused.
+fn add_input(
+    graph: &mut Graph,
+    kind: Kind,
+    name: &Name,
+    settings: Settings,
+) -> Result<bool, NoMemory>
+    requires fresh { IsFresh graph.old }
+    requires input { IsTrue (is_input kind && are_settings kind settings) }
+    ensures added { IfOk result
+        (λ added. Adds added graph.old.present (Line.Input kind name.now settings) graph.new) }
+{
+    match graph.create_input(name.share(), kind, settings, None) {
+        Ok(_) => Ok(true),
+        Err(fault) => match fault {
+            GraphFault::NoMemory => Err(NoMemory),
+            _ => Ok(false),
+        },
+    }
+}
+
+/// Adds an item, and tells whether it isn't refused.
+fn add_item(
+    alloc: Global,
+    graph: &mut Graph,
+    parent: &Name,
+    child: &Name,
+    spec: ItemSpec,
+) -> Result<bool, NoMemory>
+    requires fresh { IsFresh graph.old }
+    requires place { IsTrue (is_place spec.place) }
+    ensures added { IfOk result (λ added. Adds added graph.old.present
+        (Line.Item parent.now child.now spec.enabled spec.locked spec.place spec.blend) graph.new) }
+{
+    let parent = serial_named(alloc, graph, parent)?;
+    let child = serial_named(alloc, graph, child)?;
+    graph.has_shape();
+    match graph.add_item(parent, child, spec) {
+        Ok(_) => Ok(true),
+        Err(fault) => match fault {
+            GraphFault::NoMemory => Err(NoMemory),
+            _ => Ok(false),
+        },
+    }
+}
+
+/// The serial of the source of a name; 0, which none has, where there is none.
+fn serial_named(alloc: Global, graph: &Graph, name: &Name) -> Result<Serial, NoMemory>
+    ensures value { IfOk result (λ serial. serial ≡ serial_named graph.now.present name.now) }
+{
+    let name = Text::from_str(alloc, name.as_str())?;
+    Ok(graph.find(&name).unwrap_or(Serial(0)))
+}
+
 /// Channel 0 is given the scene of this name; none where it is refused.
 fn on_program(alloc: Global, graph: Graph, name: &Name) -> Result<Option<(Graph, Serial)>, NoMemory>
     requires fresh { IsFresh graph }
     ensures value { IfOk result (λ made. OpensProgram made graph.present name.now) }
 {
     let mut graph = graph;
-    let name = Text::from_str(alloc, name.as_str())?;
-    let program = graph.find(&name).unwrap_or(Serial(0));
+    let program = serial_named(alloc, &graph, name)?;
     if !is_scene_row(&graph, program) {
         return Ok(None);
     }

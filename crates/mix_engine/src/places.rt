@@ -1,14 +1,13 @@
 //! Where a new item stands.
 ghost use Rattle.std.specs.Prelude.{◌≡◌, IsTrue};
-ghost use Rattle.mix_model.specs.Values.{is_place};
-ghost use Rattle.mix_engine.specs.Places.{default_place};
+ghost use Rattle.mix_model.specs.Values.{is_place, new_place};
 
 use mix_model::Place;
 
 /// At the canvas's upper left corner, in its own size, not turned and not cropped.
-#[tactic(auto, unfolding(mix_model::specs::Values::is_place))]
-pub fn default_place() -> Place
-    ensures value { result ≡ default_place }
+#[tactic(auto, unfolding(mix_model::specs::Values::is_place, mix_model::specs::Values::new_place))]
+pub fn new_place() -> Place
+    ensures value { result ≡ new_place }
     ensures valid { IsTrue (is_place result) }
 {
     Place {

@@ -8,6 +8,8 @@ use crate::known::is_known;
 pub enum RequestType {
     GetSceneList,
     CreateScene,
+    SetCurrentProgramScene,
+    CreateInput,
     BroadcastCustomEvent,
     /// A request of batches alone.
     Sleep,
@@ -29,6 +31,10 @@ impl RequestType {
             RequestType::GetSceneList
         } else if kind == "CreateScene" {
             RequestType::CreateScene
+        } else if kind == "SetCurrentProgramScene" {
+            RequestType::SetCurrentProgramScene
+        } else if kind == "CreateInput" {
+            RequestType::CreateInput
         } else if kind == "BroadcastCustomEvent" {
             RequestType::BroadcastCustomEvent
         } else if kind == "Sleep" {

@@ -1,5 +1,5 @@
 //! The requests on scenes.
-ghost use Rattle.std.specs.Prelude.{◌≡◌, ◌<◌, ◌≤◌, ◌+◌, ◌^◌, [], IfOk, OnOk, OnErr};
+ghost use Rattle.std.specs.Prelude.{◌≡◌, ℕ, ◌<◌, ◌≤◌, ◌+◌, ◌^◌, [], IfOk, OnOk, OnErr};
 ghost use Rattle.mix_json.specs.Trees.{obj_of, put_fields};
 ghost use Rattle.mix_graph.specs.Refused.{RefusedBy};
 ghost use Rattle.mix_model.specs.Causes.{scene_cause};
@@ -9,10 +9,13 @@ ghost use Rattle.mix_model.specs.Opening.{no_notes};
 ghost use Rattle.mix_engine.specs.Effects.{name_or, needed_fields, new_name};
 ghost use Rattle.mix_engine.specs.Requests.{answer_in, studio_in};
 ghost use Rattle.mix_engine.specs.SceneRequests.{create_scene, creation_fields, entry_fields};
-ghost use Rattle.mix_engine.specs.SceneRequests.{name_at, scene_entries, scene_list};
+ghost use Rattle.mix_engine.specs.SceneRequests.{scene_entries, scene_list};
+ghost use Rattle.mix_engine.specs.Names.{name_at};
 ghost use Rattle.mix_engine.specs.SceneRequests.{preview_fields, program_fields, scenes_fields};
 ghost use Rattle.mix_engine.specs.SceneRequests.{refusal, scene_made, scene_name};
-ghost use Rattle.mix_engine.specs.Scenery.{HasScenes};
+ghost use Rattle.mix_engine.specs.Scenery.{HasScenes, KeepsStudio};
+ghost use Rattle.mix_engine.specs.Spoken.{ItemsWithin};
+ghost use Rattle.mix_model.specs.WholeShape.{StudioShape};
 ghost use Rattle.mix_engine.specs.Stills.{studio_of};
 ghost use Rattle.mix_engine.specs.Telling.{IsTwin, TellsEffect};
 ghost use Rattle.mix_model.specs.declared.event.Event.TheVariants as event;
@@ -80,7 +83,7 @@ fn with_scenes(alloc: Global, fields: Fields, graph: &Graph) -> Result<Fields, N
 }
 
 /// The name of a row.
-#[tactic(auto, unfolding(crate::specs::SceneRequests::name_at))]
+#[tactic(auto, unfolding(crate::specs::Names::name_at))]
 fn name_at(graph: &Graph, serial: Serial) -> &str
     ensures value { result.now ≡ name_at graph.now.present serial }
 {
@@ -130,7 +133,7 @@ fn scene_name(body: &Body) -> Result<Name, u16>
 
 /// A name that a source is to get.
 #[tactic(auto, unfolding(crate::specs::Effects::new_name))]
-fn new_name(fields: &JsonObj, key: &str) -> Result<Name, u16>
+pub fn new_name(fields: &JsonObj, key: &str) -> Result<Name, u16>
     ensures value { result ≡ new_name key.now fields.now }
 {
     let text = need_text(fields, key)?;
@@ -152,6 +155,7 @@ pub fn create_scene(
 ) -> Result<Result<Option<Json>, u16>, NoMemory>
     requires serial { graph.old.present.next_serial < 4294967295 }
     requires scenes { HasScenes graph.old.present }
+    requires shape { StudioShape (studio_of still graph.old.present) }
     requires empty { twins.old.items ≡ [] }
     ensures reply { IfOk result (λ answer. answer
         ≡ answer_in (create_scene (studio_of still graph.old.present) no_notes body.now)) }
@@ -161,6 +165,10 @@ pub fn create_scene(
     ensures tells { OnOk result (TellsEffect twins.new.items
         (create_scene (studio_of still graph.old.present) no_notes body.now)) }
     ensures scenes { HasScenes graph.new.present }
+    ensures shape { StudioShape (studio_of still graph.new.present) }
+    ensures clock { graph.new.present.clock ≡ graph.old.present.clock }
+    ensures items { (n : ℕ) → ItemsWithin n graph.old.present →
+        ItemsWithin (n + 1) graph.new.present }
     ensures grows { graph.new.present.next_serial ≤ graph.old.present.next_serial + 1 }
     ensures err { OnErr result (graph.new.present ≡ graph.old.present) }
 {
@@ -181,6 +189,7 @@ fn make_scene(
 ) -> Result<Result<Option<Json>, u16>, NoMemory>
     requires serial { graph.old.present.next_serial < 4294967295 }
     requires scenes { HasScenes graph.old.present }
+    requires shape { StudioShape (studio_of still graph.old.present) }
     requires empty { twins.old.items ≡ [] }
     ensures reply { IfOk result (λ answer. answer
         ≡ answer_in (scene_made (studio_of still graph.old.present) no_notes name)) }
@@ -190,6 +199,10 @@ fn make_scene(
     ensures tells { OnOk result (TellsEffect twins.new.items
         (scene_made (studio_of still graph.old.present) no_notes name)) }
     ensures scenes { HasScenes graph.new.present }
+    ensures shape { StudioShape (studio_of still graph.new.present) }
+    ensures clock { graph.new.present.clock ≡ graph.old.present.clock }
+    ensures items { (n : ℕ) → ItemsWithin n graph.old.present →
+        ItemsWithin (n + 1) graph.new.present }
     ensures grows { graph.new.present.next_serial ≤ graph.old.present.next_serial + 1 }
     ensures err { OnErr result (graph.new.present ≡ graph.old.present) }
 {
@@ -261,8 +274,13 @@ fn add_scene(graph: &mut Graph, name: Name) -> Result<Serial, GraphFault>
     ensures refused { RefusedBy (scene_cause graph.old.present name
         (scene_created name graph.old.present)) result }
     ensures scenes { HasScenes graph.new.present }
+    ensures keeps { KeepsStudio graph.old.present graph.new.present }
+    ensures items { (n : ℕ) → ItemsWithin n graph.old.present →
+        ItemsWithin (n + 1) graph.new.present }
     ensures grows { graph.new.present.next_serial ≤ graph.old.present.next_serial + 1 }
 {
     graph.begin_changes();
-    graph.create_scene(name)
+    let made = graph.create_scene(name);
+    graph.has_shape();
+    made
 }

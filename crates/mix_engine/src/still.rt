@@ -1,7 +1,8 @@
-//! The parts of the studio that no action built so far changes.
+//! The parts of the studio beside its sources.
 use mix_base::{Rate, Serial};
 
-/// The parts of the studio that no action built so far changes.
+/// The parts of the studio beside its sources. So far no action changes anything but which scene the
+/// program rests on.
 #[derive(Clone, Copy, Debug, PartialEq, Eq)]
 pub struct Still {
     /// The scene on which the program rests.

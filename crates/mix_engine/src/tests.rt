@@ -1,7 +1,7 @@
 //! What actions are answered where there is memory, and how a history gets full.
 ghost use Rattle.std.specs.Prelude.{◌≤◌};
 
-use crate::{ActFault, Engine, Full, Setup};
+use crate::{ActFault, Engine, Full, Head, Setup};
 use mix_base::{Bytes32, ConnId, Limits, ListOf, Name, PassNo, Rate, Text};
 use mix_model::{Action, Answer, Collection, Line, Message, Reply, Said};
 use std::alloc::Global;
@@ -24,6 +24,7 @@ const CREATE: &str =
 const LIST: &str = r#"{"op":6,"d":{"requestType":"GetSceneList","requestId":"b"}}"#;
 
 /// An engine with the scene A on program, whose history may have so many actions.
+#[tactic(auto, unfolding(mix_model::specs::Values::is_canvas, mix_model::specs::Values::is_format, mix_model::specs::Collections::line_fits))]
 fn engine(alloc: Global, turns: u64) -> Result<Engine, Fail>
     requires { turns ≤ 16777216 }
 {
@@ -140,8 +141,24 @@ fn a_full_history_refuses_and_remembers_the_first_refusal(rt: HostRuntime) -> Re
 fn an_action_that_is_not_built_changes_nothing(rt: HostRuntime) -> Result<(), Fail> {
     let alloc = rt.alloc();
     let mut engine = engine(alloc, 2)?;
-    let done = engine.act(alloc, FROM, Action::VideoTick)?;
+    let done = engine.act(alloc, FROM, Action::AudioTick)?;
     assert!(rt; done.is_none());
     assert_eq!(rt; engine.journal().len(), 0);
     expect(&rt, alloc, &mut engine, ARRIVE, 1)
+}
+
+#[test]
+fn a_record_begins_with_the_format_of_the_studio(rt: HostRuntime) -> Result<(), Fail> {
+    let engine = engine(rt.alloc(), 2)?;
+    engine.has_shape();
+    let head = Head {
+        i420: true,
+        tracks: 3,
+        width: 64,
+        height: 36,
+        rate: Rate { num: 60, den: 1 },
+        recording: 7,
+    };
+    assert_eq!(rt; engine.head(7), head);
+    Ok(())
 }

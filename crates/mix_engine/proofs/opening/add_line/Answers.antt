@@ -1,20 +1,17 @@
-use Rattle.std.proofs.Common.{◌∙◌, sym, ap}
-use Rattle.mix_model.specs.declared.collection.Line.TheVariants.{Scene}
-use Rattle.mix_engine.proofs.OpeningLemmas.{scene_fresh, scene_refused}
+use Rattle.std.proofs.Common.{subst, sym, IsTrue, ◌&&◌}
+use Rattle.mix_model.specs.Rows.{is_input}
+use Rattle.mix_model.specs.Values.{are_settings}
+use Rattle.mix_engine.proofs.OpeningLemmas.{input_fits, item_fits}
 use Rattle.mix_engine.proofs.opening.add_line.Goals as goal
 
--- the scene is made
-pub returns-in-Ok : goal.returns-in-Ok
-returns-in-Ok c = record {
-  added = scene_fresh c.args.graph.now c.create_scene.new.self c.args.line.now c.share.result
-      c.requires.fresh (c.in-Scene.is ∙ ap Scene (sym c.share.ensures.value))
-      c.in-Ok.ensures.refused c.in-Ok.ensures.ok;
-}
+-- the values of an input
+pub add_input-requires-clause-input : goal.add_input-requires-clause-input
+add_input-requires-clause-input c = subst
+    (λ settings. IsTrue (is_input c.in-Input.kind && are_settings c.in-Input.kind settings))
+    (sym c.in_ok-copy-in-Input.ensures.value)
+    (input_fits c.args.line.now _ _ _ c.in-Input.is c.requires.fits)
 
--- it is refused
-pub returns-in_default-fault : goal.returns-in_default-fault
-returns-in_default-fault c = record {
-  added = scene_refused c.args.graph.now.present c.args.line.now c.share.result c.in-Err.fault
-      (c.in-Scene.is ∙ ap Scene (sym c.share.ensures.value)) c.in_default-fault.not-NoMemory
-      c.in-Err.ensures.refused;
-}
+-- the place of an item
+pub add_item-requires-clause-place : goal.add_item-requires-clause-place
+add_item-requires-clause-place c = item_fits c.args.line.now _ _ _ _ _ _ c.in-Item.is
+    c.requires.fits

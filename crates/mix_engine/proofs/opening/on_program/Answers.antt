@@ -1,14 +1,12 @@
-use Rattle.std.proofs.Common.{◌∙◌, sym, refl}
-use Rattle.mix_engine.proofs.OpenedLemmas.{serial_given, refused_sort, refused_missing, on_program}
+use Rattle.std.proofs.Common.{sym, refl}
+use Rattle.mix_engine.proofs.OpenedLemmas.{refused_sort, refused_missing, on_program}
 use Rattle.mix_engine.proofs.opening.on_program.Goals as goal
 
 -- the name is that of another source, or of none
 pub returns-then-not-is_scene_row : goal.returns-then-not-is_scene_row
 returns-then-not-is_scene_row c = record {
-  value = refused_sort c.args.graph.present c.args.name.now c.unwrap_or-program.result
-      (serial_given c.args.graph.present c.args.name.now c.in_ok-name.name c.find.result _
-      c.find.ensures.reply (c.in_ok-name.ensures.value ∙ c.as_str.ensures.value)
-      c.unwrap_or-program.ensures)
+  value = refused_sort c.args.graph.present c.args.name.now c.in_ok-program.program
+      c.in_ok-program.ensures.value
       (sym c.if-not-is_scene_row.ensures.value);
 }
 
@@ -16,19 +14,15 @@ returns-then-not-is_scene_row c = record {
 pub returns-in-Ok : goal.returns-in-Ok
 returns-in-Ok c = record {
   value = on_program c.args.graph c.set_channel.new.self c.args.name.now
-      c.unwrap_or-program.result c.requires.fresh
-      (serial_given c.args.graph.present c.args.name.now c.in_ok-name.name c.find.result _
-      c.find.ensures.reply (c.in_ok-name.ensures.value ∙ c.as_str.ensures.value)
-      c.unwrap_or-program.ensures)
+      c.in_ok-program.program c.requires.fresh
+      c.in_ok-program.ensures.value
       (sym c.if-not-is_scene_row.ensures.value) c.in-Ok.ensures.missing.1 c.in-Ok.ensures.ok;
 }
 
 -- no source of this name is there
 pub returns-in-Err : goal.returns-in-Err
 returns-in-Err c = record {
-  value = refused_missing c.args.graph.present c.args.name.now c.unwrap_or-program.result
-      (serial_given c.args.graph.present c.args.name.now c.in_ok-name.name c.find.result _
-      c.find.ensures.reply (c.in_ok-name.ensures.value ∙ c.as_str.ensures.value)
-      c.unwrap_or-program.ensures)
+  value = refused_missing c.args.graph.present c.args.name.now c.in_ok-program.program
+      c.in_ok-program.ensures.value
       (c.in-Err.ensures.missing.0 refl);
 }

@@ -7,6 +7,7 @@ use Rattle.mix_engine.specs.SceneRequests.{creation_fields}
 use Rattle.mix_engine.proofs.CauseLemmas.{made_answer, made_studio, refused_by}
 use Rattle.mix_engine.proofs.CauseLemmas.{refused_answer, refused_studio}
 use Rattle.mix_engine.proofs.CauseLemmas.{made_tells, refused_tells}
+use Rattle.mix_engine.proofs.EditLemmas.{shape_kept}
 use Rattle.mix_engine.proofs.TellingLemmas.{only_one}
 use Rattle.mix_engine.proofs.scenes.make_scene.Goals as goal
 
@@ -54,3 +55,16 @@ returns-in-Some-clause-tells c =
     refused_tells _ _ _ (refused_by s no_notes c.args.name c.in-Err.fault _
     c.in-Err.ensures.refused c.in-Some.ensures.value)
     (c.in_ok-reserve.ensures.items ∙ c.requires.empty)
+
+-- the studio keeps its shape
+pub returns-in-Ok-clause-shape : goal.returns-in-Ok-clause-shape
+returns-in-Ok-clause-shape c = shape_kept c.args.still c.args.graph.now.present _
+    c.in-Ok.ensures.keeps c.requires.shape
+
+pub returns-in-Some-clause-shape : goal.returns-in-Some-clause-shape
+returns-in-Some-clause-shape c = shape_kept c.args.still c.args.graph.now.present _
+    c.in-Err.ensures.keeps c.requires.shape
+
+pub returns-clause-shape : goal.returns-clause-shape
+returns-clause-shape c = shape_kept c.args.still c.args.graph.now.present _
+    c.add_scene.ensures.keeps c.requires.shape

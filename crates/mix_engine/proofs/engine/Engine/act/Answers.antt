@@ -2,16 +2,28 @@ use Rattle.std.proofs.Common.{sym, ap, ◌∙◌, subst, ◌++◌, ◌∷◌, []
 use Rattle.mix_engine.specs.contracts.engine.Engine.{the_view}
 use Rattle.mix_engine.specs.Answers.{Agrees, answer_to}
 use Rattle.mix_engine.specs.Engines.{EngineModel, has_room}
-use Rattle.mix_engine.proofs.EngineLemmas.{engine_longer, answer_agrees}
+use Rattle.mix_engine.proofs.EngineLemmas.{numbers_left, engine_longer, answer_agrees}
 use Rattle.mix_engine.proofs.engine.Engine.act.Goals as goal
+
+-- the next numbers can still be given
+pub act-requires : goal.act-requires
+act-requires c = record {
+  numbers = numbers_left (the_view c.self.inside) _ _ c.self.invariant.0 c.self.invariant.1
+      c.self.invariant.2;
+}
 
 -- one entry more keeps what ties the engine to its journal
 pub invariant_of-self-in-Ok-Some : goal.invariant_of-self-in-Ok-Some
 invariant_of-self-in-Ok-Some c = engine_longer (the_view c.self.inside) _ _ _
     (record { from = c.args.from; action = c.args.action }) c.in-Ok-Some.spoken _ _
     c.self.invariant.0 c.self.invariant.1 (rw c.in-Ok-Some.field-0-is at c.in-Ok-Some.ensures.reply)
-    c.in-Ok-Some.ensures.state c.in-Ok-Some.ensures.listeners c.in-Ok-Some.ensures.conns
-    c.in-Ok-Some.ensures.serials
+    c.in-Ok-Some.ensures.state c.in-Ok-Some.ensures.listeners
+    (record {
+      conns = c.in-Ok-Some.ensures.conns;
+      serials = c.in-Ok-Some.ensures.serials;
+      clock = c.in-Ok-Some.ensures.clock;
+      items = c.in-Ok-Some.ensures.items;
+    })
     (ap (λ (e : EngineModel). has_room e c.args.action) c.self.view_is
     ∙ sym (c.has_room.ensures.value c.args.action c.line_length-line.ensures.value)
     ∙ c.if-not-has_room.false)

@@ -1,6 +1,5 @@
 use Rattle.std.proofs.Common.{◌≡◌, Option, sym, ap, ◌∙◌}
 use Rattle.std.specs.Option.{option_map}
-use Rattle.mix_engine.specs.Mixer.{Mixer}
 use Rattle.mix_engine.specs.Mixings.{Mixed}
 use Rattle.mix_engine.specs.Openings.{mixer_opened}
 use Rattle.mix_engine.specs.declared.setup.Setup.{Setup}
@@ -20,7 +19,9 @@ invariant_of-result c = opening_replayed c.args.setup c.in-Some.mixing c.new.res
     c.new.ensures.items (opens c.args.setup _ _ c.in-Some.is c.in_ok-open.ensures.value)
     (rw c.in-Some.is at c.in_ok-open.ensures.nobody)
     (rw c.in-Some.is at c.in_ok-open.ensures.conns)
-    (rw c.in-Some.is at c.in_ok-open.ensures.serials) c.requires.limits
+    (rw c.in-Some.is at c.in_ok-open.ensures.serials)
+    (rw c.in-Some.is at c.in_ok-open.ensures.clock)
+    (rw c.in-Some.is at c.in_ok-open.ensures.items) c.requires.limits
 
 -- the collection can't be opened
 pub returns-in-None : goal.returns-in-None

@@ -4,13 +4,14 @@ use Rattle.mix_session.specs.SessionState.{hello}
 use Rattle.mix_engine.specs.declared.own.Own.TheVariants.{Full}
 use Rattle.mix_engine.proofs.ListenerLemmas.{unknown}
 use Rattle.mix_engine.proofs.MixingLemmas.{rests_mixing, joined_mixing, only_left, joined_left}
-use Rattle.mix_engine.proofs.MixingLemmas.{speaks, leaves_after, arrives, arrives_full, says_hello}
+use Rattle.mix_engine.proofs.ComingLemmas.{speaks, leaves_after, arrives, arrives_full}
+use Rattle.mix_engine.proofs.MixingLemmas.{says_hello}
 use Rattle.mix_engine.proofs.MixingLemmas.{has_place}
 use Rattle.mix_engine.proofs.mixing.Mixing.arrive.Goals as goal
 
 -- there is no room for it
 pub invariant_of-self : goal.invariant_of-self
-invariant_of-self c = rests_mixing _ _ c.self.inside.audience.listeners _ c.self.invariant
+invariant_of-self c = rests_mixing _ _ _ c.self.inside.audience.listeners _ c.self.invariant
     None _ c.end.ensures.listeners
 
 pub returns-then-len-ge-MOST_CONNS-clause-state : goal.returns-then-len-ge-MOST_CONNS-clause-state
@@ -28,18 +29,18 @@ join-requires c = record {
 }
 
 pub invariant_of-self-2 : goal.invariant_of-self-2
-invariant_of-self-2 c = joined_mixing _ _ c.self.inside.audience.listeners _ c.self.invariant
+invariant_of-self-2 c = joined_mixing _ _ _ c.self.inside.audience.listeners _ c.self.invariant
     (Some c.self.inside.next_conn) c.args.challenge.now _ _ c.in_ok-join.ensures.listeners
     c.end-2.ensures.listeners
 
 -- it is told Hello
 pub returns-clause-reply : goal.returns-clause-reply
-returns-clause-reply c = speaks c.args.self.now.listeners _ _ _
+returns-clause-reply c = speaks c.args.self.now.listeners c.args.self.now.mixer.studio _ _ _
     (arrives c.args.self.now.mixer c.args.challenge.now
     (has_place _ _ _ _ _ _ c.self.view_is true (lt-ltb _ _ (omega arith))))
     (says_hello _ _ _ _ _ _ c.self.view_is _ c.args.challenge.now
     c.in_ok-join.field-0 c.in_ok-said.said.items c.self.invariant.listeners_are refl
-    c.in_ok-said.ensures.items c.in_ok-join.ensures.hello c.push_reserved.ensures.items)
+    c.in_ok-said.ensures.items c.in_ok-join.ensures.hello c.push_reserved.ensures.items refl)
 
 -- and is there
 pub returns-clause-state : goal.returns-clause-state

@@ -1,10 +1,14 @@
-use Rattle.std.proofs.Common.{Some, refl, ◌∙◌}
+use Rattle.std.proofs.Common.{Some, refl, sym, subst, ◌∙◌}
 use Rattle.mix_model.specs.Opening.{no_notes}
+use Rattle.mix_engine.specs.Mixings.{Mixed}
 use Rattle.mix_engine.specs.Requests.{requested}
+use Rattle.mix_engine.specs.Spoken.{ItemsWithin}
 use Rattle.mix_engine.specs.Stills.{studio_of}
-use Rattle.mix_engine.proofs.MixingLemmas.{IsAsked, was_asked, asks, answered_left, answered_told}
+use Rattle.mix_engine.proofs.AskingLemmas.{IsAsked, was_asked, asks, answered_left, answered_told}
+use Rattle.mix_engine.proofs.AskingLemmas.{done_sayable_as}
 use Rattle.mix_engine.proofs.MixingLemmas.{told_mixing, waited_sayable, taken_sayable}
-use Rattle.mix_engine.proofs.MixingLemmas.{then_sayable, done_sayable_as, speaks, leaves_after}
+use Rattle.mix_engine.proofs.ComingLemmas.{speaks, leaves_after}
+use Rattle.mix_engine.proofs.MixingLemmas.{then_sayable}
 use Rattle.mix_engine.proofs.mixing.Mixing.ask.Goals as goal
 
 -- what it came to
@@ -16,20 +20,22 @@ asked c = was_asked _ _ _ _ c.in-Some.is c.in_ok-done.ensures.reply c.in_ok-done
 -- its events can be said
 pub invariant_of-self-2 : goal.invariant_of-self-2
 invariant_of-self-2 c =
-    told_mixing _ _ c.self.inside.audience.listeners _ c.self.invariant _ (Some c.args.conn) _ _ _ _
-    c.in_ok-done.ensures.scenes (asked c).tells.sayable c.in_ok-reserve.ensures.listeners
-    c.tell.ensures.listeners c.end.ensures.listeners
+    told_mixing _ _ _ c.self.inside.audience.listeners _ c.self.invariant _ _
+    (Some c.args.conn) _ _ _ _ c.in_ok-done.ensures.scenes c.in_ok-done.ensures.program
+    c.in_ok-done.ensures.shape c.in_ok-done.ensures.clock (asked c).tells.sayable
+    c.in_ok-reserve.ensures.listeners c.tell.ensures.listeners c.end.ensures.listeners
 
 -- it is told what waits for it, the events that it takes, and its answer
 pub returns-clause-reply : goal.returns-clause-reply
 returns-clause-reply c =
-    speaks c.args.self.now.listeners _ _ _
+    speaks c.args.self.now.listeners c.args.self.now.mixer.studio _ _ _
     (asks _ _ _ _ _ _ c.self.view_is c.args.ask c.args.conn (asked c).all (asked c).asked_is)
     (record {
       own = refl;
       said = answered_told _ _ _ _ _ _ c.self.view_is c.args.ask c.in-Some.done _ (asked c)
           c.self.invariant.listeners_are c.args.conn _ _ _ _ c.in_ok-reserve.ensures.listeners
           c.in_ok-said.ensures.said c.tell.ensures.said c.push_reserved.ensures.items;
+      shot = refl;
     })
 
 -- what the request leaves
@@ -38,7 +44,8 @@ returns-clause-state c =
     leaves_after c.args.self.now _ _ _
     (asks _ _ _ _ _ _ c.self.view_is c.args.ask c.args.conn (asked c).all (asked c).asked_is)
     (answered_left _ _ _ _ _ _ c.self.view_is c.args.ask c.in-Some.done _ (asked c)
-    c.self.invariant.listeners_are c.answer.new.graph.present c.end.new.self c.args.conn _ _
+    c.self.invariant.listeners_are c.answer.new.still c.answer.new.graph.present c.end.new.self
+    c.args.conn _ _
     c.in_ok-done.ensures.state
     (c.end.ensures.secret ∙ c.tell.ensures.secret ∙ c.in_ok-reserve.ensures.secret)
     c.in_ok-reserve.ensures.listeners c.tell.ensures.listeners c.end.ensures.listeners)
@@ -48,9 +55,15 @@ pub returns-clause-said : goal.returns-clause-said
 returns-clause-said c =
     record {
       own = tt;
+      shot = tt;
       sayable = then_sayable _ _ _ (taken_sayable c.args.conn _ _ _ _ (asked c).tells.sayable
           (waited_sayable c.self.inside.next_conn c.args.conn c.self.inside.audience.listeners _
           c.self.invariant.listeners_are c.in_ok-said.ensures.said) c.tell.ensures.said)
           (done_sayable_as _ _ c.args.ask c.in-Some.done _ c.requires.id (asked c))
           c.push_reserved.ensures.items;
     }
+
+-- the next ids of items
+pub returns-clause-items : goal.returns-clause-items
+returns-clause-items c = λ n within. c.in_ok-done.ensures.items n
+    (subst (λ (m : Mixed). ItemsWithin n m.mixer.studio.graph) (sym c.self.view_is) within)

@@ -6,7 +6,7 @@ use Rattle.mix_engine.proofs.mixing.Mixing.close.Goals as goal
 
 -- the others are open still
 pub invariant_of-self : goal.invariant_of-self
-invariant_of-self c = others_mixing _ _ c.self.inside.audience.listeners _ c.self.invariant
+invariant_of-self c = others_mixing _ _ _ c.self.inside.audience.listeners _ c.self.invariant
     (Some c.args.conn) c.args.conn _ _ c.leave.ensures.listeners c.end.ensures.listeners
 
 -- it is told what waits for it
@@ -16,6 +16,7 @@ returns-clause-reply c = record {
   said = waits_view _ _ _ _ _ _ c.self.view_is c.args.conn
       (closes c.args.self.now.mixer c.args.conn c.args.code) _ refl refl
       c.in_ok-said.ensures.said;
+  shot = refl;
 }
 
 -- and nobody else is there
@@ -29,6 +30,7 @@ returns-clause-state c = others_left _ _ _ _ _ _ c.self.view_is c.end.new.self
 pub returns-clause-said : goal.returns-clause-said
 returns-clause-said c = record {
   own = tt;
+  shot = tt;
   sayable = waited_sayable c.self.inside.next_conn c.args.conn
       c.self.inside.audience.listeners _ c.self.invariant.listeners_are
       c.in_ok-said.ensures.said;

@@ -5,7 +5,7 @@ use Rattle.mix_engine.proofs.mixing.Mixing.gone.Goals as goal
 
 -- nobody comes or goes
 pub invariant_of-self : goal.invariant_of-self
-invariant_of-self c = rests_mixing _ _ c.self.inside.audience.listeners _ c.self.invariant
+invariant_of-self c = rests_mixing _ _ _ c.self.inside.audience.listeners _ c.self.invariant
     (Some c.args.conn) _ c.end.ensures.listeners
 
 pub returns-clause-state : goal.returns-clause-state

@@ -1,12 +1,13 @@
 use Rattle.std.proofs.Common.{true, sym, ◌∙◌}
-use Rattle.mix_engine.proofs.MixingLemmas.{speaks, speaks_as, leaves_after, leaves_as}
-use Rattle.mix_engine.proofs.MixingLemmas.{hears_view, hears_cut, hears_gone, gone_view, open_view}
-use Rattle.mix_engine.proofs.MixingLemmas.{plain_heard}
+use Rattle.mix_engine.proofs.ComingLemmas.{speaks, speaks_as, leaves_after, leaves_as}
+use Rattle.mix_engine.proofs.ComingLemmas.{hears_cut, hears_gone}
+use Rattle.mix_engine.proofs.MixingLemmas.{hears_view, gone_view, open_view}
+use Rattle.mix_engine.proofs.ComingLemmas.{plain_heard}
 use Rattle.mix_engine.proofs.mixing.Mixing.hear.Goals as goal
 
 -- the connection isn't open
 pub returns-in-None-clause-reply : goal.returns-in-None-clause-reply
-returns-in-None-clause-reply c = speaks c.args.self.now.listeners _ _ _
+returns-in-None-clause-reply c = speaks c.args.self.now.listeners c.args.self.now.mixer.studio _ _ _
     (hears_gone c.args.self.now.mixer c.args.conn c.args.message.now
     (gone_view _ _ _ _ _ _ c.self.view_is c.args.conn c.in-None.ensures.value))
     c.gone.ensures.reply
@@ -19,7 +20,7 @@ returns-in-None-clause-state c = leaves_after c.args.self.now _ _ _
 
 -- it is cut
 pub returns-in-Some-true-clause-reply : goal.returns-in-Some-true-clause-reply
-returns-in-Some-true-clause-reply c = speaks_as c.args.self.now.listeners c.close.result _ _
+returns-in-Some-true-clause-reply c = speaks_as c.args.self.now.listeners c.args.self.now.mixer.studio c.close.result _ _
     (hears_cut c.args.self.now.mixer c.args.conn c.args.message.now
     (open_view _ _ _ _ _ _ c.self.view_is c.args.conn c.in-Some-true.field-0
     true c.in-Some-true.ensures.value c.in-Some-true.field-0-test))
@@ -39,7 +40,7 @@ heard-requires-clause-plain c = plain_heard c.self.inside.audience.secret c.args
 
 -- and it is done
 pub returns-in-Some-clause-reply : goal.returns-in-Some-clause-reply
-returns-in-Some-clause-reply c = speaks_as c.args.self.now.listeners c.heard.result _ _
+returns-in-Some-clause-reply c = speaks_as c.args.self.now.listeners c.args.self.now.mixer.studio c.heard.result _ _
     (hears_view _ _ _ _ _ _ c.self.view_is c.args.message.now c.in-Some.heard
     c.args.conn c.in-Some-false.field-0 c.in-Some-false.ensures.value c.in-Some-false.field-0-test
     (sym c.in-Some.is ∙ c.in_ok-hear-in-Some-false.ensures.value))

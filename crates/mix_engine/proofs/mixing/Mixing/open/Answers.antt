@@ -1,8 +1,9 @@
-use Rattle.std.proofs.Common.{ap, map, ◌∙◌}
+use Rattle.std.proofs.Common.{ap, map, refl, ◌∙◌}
 use Rattle.mix_engine.specs.Listeners.{conn_of}
 use Rattle.mix_engine.proofs.OpenedLemmas.{shut_preview, lines_shut, lines_opened}
 use Rattle.mix_engine.proofs.OpenedLemmas.{program_shut, program_opened}
 use Rattle.mix_engine.proofs.OpenedLemmas.{opened_mixing, opened_value, opened_serials}
+use Rattle.mix_engine.proofs.OpenedLemmas.{opened_clock, opened_items}
 use Rattle.mix_engine.proofs.mixing.Mixing.open.Goals as goal
 
 -- a preview is asked for
@@ -31,7 +32,8 @@ invariant_of-result c = opened_mixing c.args.collection.now c.in-Some.graph c.in
     (program_opened c.in-Some.graph.present c.args.collection.now.program
     c.in_ok-graph-2.field-0 c.in-Some-2.graph c.in-Some-2.program c.in-Some-2.is
     c.in_ok-graph-2.ensures.value)
-    c.still_of.result c.new.result.listeners c.still_of.ensures.value c.new.ensures.listeners
+    c.still_of.result 0 c.new.result.listeners c.still_of.ensures.value refl
+    c.new.ensures.listeners c.requires.fits c.has_shape.ensures.shape
 
 pub returns-clause-value : goal.returns-clause-value
 returns-clause-value c = opened_value c.args.collection.now c.in-Some.graph c.in-Some-2.graph
@@ -53,3 +55,21 @@ returns-clause-serials c = opened_serials c.args.collection.now c.in-Some.graph
     (program_opened c.in-Some.graph.present c.args.collection.now.program
     c.in_ok-graph-2.field-0 c.in-Some-2.graph c.in-Some-2.program c.in-Some-2.is
     c.in_ok-graph-2.ensures.value)
+
+pub returns-clause-clock : goal.returns-clause-clock
+returns-clause-clock c = opened_clock c.args.collection.now c.in-Some.graph
+    c.in-Some-2.graph c.in-Some-2.program
+    (lines_opened c.args.collection.now c.as_slice.result.now c.in_ok-graph.field-0
+    c.in-Some.graph c.as_slice.ensures.value c.in-Some.is c.in_ok-graph.ensures.value)
+    (program_opened c.in-Some.graph.present c.args.collection.now.program
+    c.in_ok-graph-2.field-0 c.in-Some-2.graph c.in-Some-2.program c.in-Some-2.is
+    c.in_ok-graph-2.ensures.value)
+
+pub returns-clause-items : goal.returns-clause-items
+returns-clause-items c = opened_items c.args.collection.now c.in-Some.graph
+    c.in-Some-2.graph c.in-Some-2.program
+    (lines_opened c.args.collection.now c.as_slice.result.now c.in_ok-graph.field-0
+    c.in-Some.graph c.as_slice.ensures.value c.in-Some.is c.in_ok-graph.ensures.value)
+    (program_opened c.in-Some.graph.present c.args.collection.now.program
+    c.in_ok-graph-2.field-0 c.in-Some-2.graph c.in-Some-2.program c.in-Some-2.is
+    c.in_ok-graph-2.ensures.value) c.has_shape.ensures.shape

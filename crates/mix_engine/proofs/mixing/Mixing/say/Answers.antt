@@ -1,11 +1,12 @@
 use Rattle.std.proofs.Common.{Some, sym, ◌∙◌}
-use Rattle.mix_engine.proofs.MixingLemmas.{masked_mixing, identified_left, says, leaves_after}
+use Rattle.mix_engine.proofs.ComingLemmas.{says, leaves_after}
+use Rattle.mix_engine.proofs.MixingLemmas.{masked_mixing, identified_left}
 use Rattle.mix_engine.proofs.MixingLemmas.{waited_sayable, then_sayable}
 use Rattle.mix_engine.proofs.mixing.Mixing.say.Goals as goal
 
 -- it is deaf to activity
 pub invariant_of-self : goal.invariant_of-self
-invariant_of-self c = masked_mixing _ _ c.self.inside.audience.listeners _ c.self.invariant
+invariant_of-self c = masked_mixing _ _ _ c.self.inside.audience.listeners _ c.self.invariant
     (Some c.args.conn) c.args.conn c.args.mask _ _ (sym c.if-not-is_deaf.ensures.value)
     c.identify.ensures.listeners c.end.ensures.listeners
 
@@ -22,6 +23,7 @@ returns-clause-state c = leaves_after c.args.self.now _ _ _
 pub returns-clause-said : goal.returns-clause-said
 returns-clause-said c = record {
   own = tt;
+  shot = tt;
   sayable = then_sayable c.in_ok-all.all.items _ c.args.said
       (waited_sayable c.self.inside.next_conn c.args.conn c.self.inside.audience.listeners _
       c.self.invariant.listeners_are c.in_ok-all.ensures.said)

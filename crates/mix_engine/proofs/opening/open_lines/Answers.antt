@@ -1,8 +1,9 @@
 use Rattle.std.proofs.Common.{refl, sym, ap, rules}
 use Rattle.mix_model.specs.State.{GraphState}
 use Rattle.mix_model.specs.Lines.{lines_done}
-use Rattle.mix_engine.proofs.OpeningLemmas.{fresh_empty, stopped_at}
-use Rattle.mix_engine.proofs.opening.open_scenes.Goals as goal
+use Rattle.mix_engine.proofs.FreshLemmas.{fresh_empty}
+use Rattle.mix_engine.proofs.OpeningLemmas.{stopped_at}
+use Rattle.mix_engine.proofs.opening.open_lines.Goals as goal
 
 -- so far no line is done
 pub loop-line-init : goal.loop-line-init
