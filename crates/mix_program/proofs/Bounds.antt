@@ -1,6 +1,6 @@
 -- No more than so many bytes are read.
 use Rattle.std.proofs.Common.{◌≡◌, ℕ, ◌+◌, ◌-◌, ◌<◌, ◌≤◌, Bool, true, false, cond, nat_le, nat_lt}
-use Rattle.std.proofs.Common.{List, [], ◌∷◌, length, refl, sym, ap, ◌∙◌, arith, codes}
+use Rattle.std.proofs.Common.{List, [], ◌∷◌, length, refl, ap, arith, codes}
 use Rattle.std.proofs.Common.{Option, Some, None}
 use Rattle.std.proofs.lemmas.Bool.{lt-ltb, ltb-true, leb-true, leb-false}
 use Rattle.mix_outside.specs.Lines.{Lines, End, Cut, Whole, is_feed, onto, lines_of}

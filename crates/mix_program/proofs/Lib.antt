@@ -1,7 +1,11 @@
 -- no more than so many bytes are read
 pub mod Bounds
+-- what is painted is a whole picture
+pub mod Painted
 -- pieces that are written one behind the other
 pub mod Pieces
+-- the text of pixels one after another
+pub mod Pixels
 -- how runs go on and end
 pub mod Runs
 -- which statuses are left

@@ -1,16 +1,16 @@
 -- How runs go on and end.
-use Rattle.std.proofs.Common.{is_some, IfSome, ◌≡◌, ℕ, ◌+◌, ◌-◌, ◌<◌, ◌≤◌, Bool, true, false, cond, suc, nat_lt, List, [], ◌∷◌, ◌++◌, length, refl, sym, ap, ◌∙◌, subst, arith, rules, Ok, Err, Result, Some, Option}
+use Rattle.std.proofs.Common.{is_some, IfSome, ◌≡◌, ℕ, ◌+◌, ◌-◌, ◌<◌, ◌≤◌, Bool, true, false, cond, nat_lt, List, [], ◌∷◌, ◌++◌, length, refl, sym, ap, ◌∙◌, subst, arith, Ok, Some, Option}
+use Rattle.std.specs.Prelude.{◌==◌}
 use Rattle.std.proofs.lemmas.List.{append-nil, append_assoc}
 use Rattle.std.proofs.lemmas.Bool.Decides.{nat_tests}
 use Rattle.std.proofs.lemmas.Bool.{ltb-true}
-use Rattle.mix_outside.specs.Bytes.{IsPrefix, AppendsPrefix}
+use Rattle.mix_outside.specs.Bytes.{AppendsPrefix}
 use Rattle.mix_outside.specs.Lines.{Lines, End, Cut, Whole, last_line, bytes_of_first}
 use Rattle.mix_base.specs.declared.limits.Limits.{Limits}
 use Rattle.mix_model.specs.declared.action.Action.{Action}
 use Rattle.mix_model.specs.declared.action.Entry.{Entry}
 use Rattle.mix_model.specs.declared.said.Said.{Said}
 use Rattle.mix_model.specs.declared.reply.Reply.{Reply}
-use Rattle.mix_script.specs.declared.bad_line.BadLine.{BadLine}
 use Rattle.mix_script.specs.Lines.{action_of}
 use Rattle.mix_engine.specs.declared.own.Own.{Own}
 use Rattle.mix_engine.specs.declared.own.Own.TheVariants as own
@@ -22,9 +22,12 @@ use Rattle.mix_engine.specs.Built.{is_built}
 use Rattle.mix_engine.specs.Mixer.{Mixer}
 use Rattle.mix_engine.specs.Answers.{answer_to, state_after, Answered, Replies}
 use Rattle.mix_engine.specs.Built.{is_built}
-use Rattle.mix_program.specs.Output.{Written, before, lines_by, lines_to, reply_lines}
+use Rattle.mix_model.specs.Plans.{painted}
+use Rattle.mix_model.specs.State.{StudioState}
+use Rattle.mix_program.specs.Output.{Written, before, lines_by, lines_to, reply_lines, IsPaintable}
+use Rattle.mix_program.specs.PictureText.{frame_line}
 use Rattle.mix_program.specs.Run.{run, turn, done, not_built, full, next_line, room_for, entry_of}
-use Rattle.mix_program.specs.Ends.{Goes, Stops, Finishes, Ends, Puts}
+use Rattle.mix_program.specs.Ends.{Goes, Stops, Ends}
 use Rattle.mix_program.specs.declared.running.Finished.TheVariants.{Done}
 use Rattle.mix_program.specs.declared.running.Ended.{Ended}
 use Rattle.mix_program.specs.declared.running.Ended.TheVariants as ends
@@ -80,21 +83,43 @@ goes_ends ends.ReadFault old mid new all rest f g = stops_more old mid new all r
 goes_ends ends.WriteFault old mid new all rest f g = stops_more old mid new all rest f g
 goes_ends ends.NoMemory old mid new all rest f g = stops_more old mid new all rest f g
 
--- a reply has the lines of what its entry is answered
-reply_has : (o : Own) (told : List Said) (due : Bool) (reply : Reply) → Replies o told due reply →
-    reply_lines reply ≡ lines_by o told
-reply_has own.Full told due reply h = ap reply_lines h
-reply_has (own.Gone conn) told due reply h = ap reply_lines h
-reply_has (own.Left conn) told due reply h = ap reply_lines h
-reply_has (own.Told conn) told due reply h = ap reply_lines h
-reply_has (own.Closed conn code) told due reply h = ap reply_lines h
-reply_has (own.Frame number recording) told due reply h = ap reply_lines h.1
-reply_has own.NoFrame told due reply h = ap reply_lines h
-reply_has (own.Block number recording) told due reply h = ap reply_lines h.1
-reply_has (own.FrameGone number) told due reply h = ap reply_lines h
-reply_has own.NoSuchFrame told due reply h = ap reply_lines h
-reply_has (own.Destroyed serial) told due reply h = ap reply_lines h
-reply_has own.Nothing told due reply h = ap reply_lines h
+-- a reply has the lines of what its entry is answered, on the canvas of the studio that was found
+reply_has : (canvas : ℕ × ℕ) (o : Own) (found : StudioState) (told : List Said) (due : Bool)
+    (reply : Reply) → canvas ≡ found.canvas → Replies o found told due reply →
+    reply_lines canvas reply ≡ lines_by o found told
+reply_has canvas own.Full found told due reply same h = ap (reply_lines canvas) h
+reply_has canvas (own.Gone conn) found told due reply same h = ap (reply_lines canvas) h
+reply_has canvas (own.Left conn) found told due reply same h = ap (reply_lines canvas) h
+reply_has canvas (own.Told conn) found told due reply same h = ap (reply_lines canvas) h
+reply_has canvas (own.Closed conn code) found told due reply same h = ap (reply_lines canvas) h
+reply_has canvas (own.Frame number recording) found told due reply same h =
+    ap (reply_lines canvas) h.2
+    ∙ ap (frame_line number) (ap (painted h.0 number) same ∙ h.1.picture)
+reply_has canvas own.NoFrame found told due reply same h = ap (reply_lines canvas) h
+reply_has canvas (own.Block number recording) found told due reply same h =
+    ap (reply_lines canvas) h.1
+reply_has canvas (own.FrameGone number) found told due reply same h = ap (reply_lines canvas) h
+reply_has canvas own.NoSuchFrame found told due reply same h = ap (reply_lines canvas) h
+reply_has canvas (own.Destroyed serial) found told due reply same h = ap (reply_lines canvas) h
+reply_has canvas own.Nothing found told due reply same h = ap (reply_lines canvas) h
+
+-- the shot of a reply can be painted
+pub reply_paintable : (o : Own) (found : StudioState) (told : List Said) (due : Bool)
+    (reply : Reply) → Replies o found told due reply → IsPaintable reply
+reply_paintable own.Full found told due reply h = subst IsPaintable (sym h) tt
+reply_paintable (own.Gone conn) found told due reply h = subst IsPaintable (sym h) tt
+reply_paintable (own.Left conn) found told due reply h = subst IsPaintable (sym h) tt
+reply_paintable (own.Told conn) found told due reply h = subst IsPaintable (sym h) tt
+reply_paintable (own.Closed conn code) found told due reply h = subst IsPaintable (sym h) tt
+reply_paintable (own.Frame number recording) found told due reply h =
+    subst IsPaintable (sym h.2) h.1.paintable
+reply_paintable own.NoFrame found told due reply h = subst IsPaintable (sym h) tt
+reply_paintable (own.Block number recording) found told due reply h =
+    subst IsPaintable (sym h.1) tt
+reply_paintable (own.FrameGone number) found told due reply h = subst IsPaintable (sym h) tt
+reply_paintable own.NoSuchFrame found told due reply h = subst IsPaintable (sym h) tt
+reply_paintable (own.Destroyed serial) found told due reply h = subst IsPaintable (sym h) tt
+reply_paintable own.Nothing found told due reply h = subst IsPaintable (sym h) tt
 
 turn_built : (start : Mixer) (journal : List Entry) (action : Action)
     (rest : List Entry → Written) → is_built (state_after start journal) action ≡ true →
@@ -111,34 +136,39 @@ turn_not_built e start journal action rest old new number built is_next h =
     rw built (let P : ℕ → Type 0 = λ n. Ends e old new (not_built n) in subst P is_next h)
 
 -- the lines of an action are written, and the run goes on behind its entry
-pub turn_goes : (start : Mixer) (journal after : List Entry) (action : Action) (reply : Reply)
-    (rest : List Entry → Written) (old new : List ℕ) →
+pub turn_goes : (canvas : ℕ × ℕ) (start : Mixer) (journal after : List Entry) (action : Action)
+    (reply : Reply) (rest : List Entry → Written) (old new : List ℕ) →
+    canvas ≡ (state_after start journal).studio.canvas →
     is_built (state_after start journal) action ≡ true →
-    (let a : Answered = answer_to start journal action in Replies a.own a.told a.due reply) →
-    after ≡ journal ++ entry_of journal action ∷ [] → new ≡ old ++ reply_lines reply →
+    (let a : Answered = answer_to start journal action in
+    Replies a.own a.found a.told a.due reply) →
+    after ≡ journal ++ entry_of journal action ∷ [] → new ≡ old ++ reply_lines canvas reply →
     Goes old new (turn start journal (Ok action) rest) (rest after)
-turn_goes start journal after action reply rest old new built replies is_after held = record {
-  piece = reply_lines reply;
-  held = held;
-  left = turn_built start journal action rest built
-      ∙ rw (is_after, reply_has _ _ _ reply replies) refl;
-}
+turn_goes canvas start journal after action reply rest old new same built replies is_after held =
+    record {
+      piece = reply_lines canvas reply;
+      held = held;
+      left = turn_built start journal action rest built
+          ∙ rw (is_after, reply_has canvas _ _ _ _ reply same replies) refl;
+    }
 
 -- a front of the lines of an action is written
-pub turn_stops : (start : Mixer) (journal : List Entry) (action : Action) (reply : Reply)
-    (rest : List Entry → Written) (old new : List ℕ) →
+pub turn_stops : (canvas : ℕ × ℕ) (start : Mixer) (journal : List Entry) (action : Action)
+    (reply : Reply) (rest : List Entry → Written) (old new : List ℕ) →
+    canvas ≡ (state_after start journal).studio.canvas →
     is_built (state_after start journal) action ≡ true →
-    (let a : Answered = answer_to start journal action in Replies a.own a.told a.due reply) →
-    AppendsPrefix (reply_lines reply) old new →
+    (let a : Answered = answer_to start journal action in
+    Replies a.own a.found a.told a.due reply) →
+    AppendsPrefix (reply_lines canvas reply) old new →
     Stops old new (turn start journal (Ok action) rest)
-turn_stops start journal action reply rest old new built replies h = record {
+turn_stops canvas start journal action reply rest old new same built replies h = record {
   front = h.0;
   held = h.2;
   is_front = (
     h.1.0 ++ (rest (journal ++ entry_of journal action ∷ [])).lines,
     ap (λ t. t.lines) (turn_built start journal action rest built)
         ∙ ap (λ l. l ++ (rest (journal ++ entry_of journal action ∷ [])).lines)
-        (sym (reply_has _ _ _ reply replies) ∙ h.1.1)
+        (sym (reply_has canvas _ _ _ _ reply same replies) ∙ h.1.1)
         ∙ append_assoc h.0 h.1.0 (rest (journal ++ entry_of journal action ∷ [])).lines,
   );
 }
@@ -230,25 +260,27 @@ was_tried found answer e e' number action is_found some agrees state =
     }
 
 -- an action that is built was done, and its lines are written
-pub act_goes : (answer : Answer) (e e' : EngineModel) (number : ℕ) (action : Action)
-    (rest : List Entry → Written) (old new : List ℕ) → number ≡ next_line e.journal →
-    Tried answer number action e e' → new ≡ old ++ reply_lines answer.reply →
+pub act_goes : (canvas : ℕ × ℕ) (answer : Answer) (e e' : EngineModel) (number : ℕ)
+    (action : Action) (rest : List Entry → Written) (old new : List ℕ) →
+    canvas ≡ (present e).studio.canvas → number ≡ next_line e.journal →
+    Tried answer number action e e' → new ≡ old ++ reply_lines canvas answer.reply →
     Goes old new (turn e.start e.journal (Ok action) rest) (rest e'.journal)
-act_goes answer e e' number action rest old new is_next tried held =
+act_goes canvas answer e e' number action rest old new same is_next tried held =
     let place : number - 1 ≡ length e.journal = omega (arith, is_next) in
     let longer : e'.journal ≡ e.journal ++ entry_of e.journal action ∷ [] =
     ap (λ (x : EngineModel). x.journal) tried.state ∙ ap (λ n. e.journal
     ++ record { from = record { pass = 0; number = n }; action = action } ∷ []) place in
-    turn_goes e.start e.journal e'.journal action answer.reply rest old new tried.built
-    tried.agrees.reply longer held
+    turn_goes canvas e.start e.journal e'.journal action answer.reply rest old new same
+    tried.built tried.agrees.reply longer held
 
 -- an action that is built was done, and a front of its lines is written
-pub act_stops : (answer : Answer) (e e' : EngineModel) (number : ℕ) (action : Action)
-    (rest : List Entry → Written) (old new : List ℕ) → Tried answer number action e e' →
-    AppendsPrefix (reply_lines answer.reply) old new →
+pub act_stops : (canvas : ℕ × ℕ) (answer : Answer) (e e' : EngineModel) (number : ℕ)
+    (action : Action) (rest : List Entry → Written) (old new : List ℕ) →
+    canvas ≡ (present e).studio.canvas → Tried answer number action e e' →
+    AppendsPrefix (reply_lines canvas answer.reply) old new →
     Stops old new (turn e.start e.journal (Ok action) rest)
-act_stops answer e e' number action rest old new tried h =
-    turn_stops e.start e.journal action answer.reply rest old new tried.built tried.agrees.reply h
+act_stops canvas answer e e' number action rest old new same tried h = turn_stops canvas e.start
+    e.journal action answer.reply rest old new same tried.built tried.agrees.reply h
 
 -- the bytes that a line may take, by its number
 pub limit_is : (limits : Limits) (journal : List Entry) (number room limit : ℕ) →
@@ -275,3 +307,7 @@ fits_line turns number room limit size value fits =
 pub second_empty : {A : Type 0} (xs ys : List A) → xs ++ ys ≡ [] → ys ≡ []
 second_empty [] ys none = none
 second_empty (x ∷ xs) ys none = cc
+
+-- a length that is no longer than nothing
+pub no_longer : (n m : ℕ) → true ≡ (n == 0) → m ≡ n → m ≡ 0
+no_longer n m none same = grind (arith, nat_tests)

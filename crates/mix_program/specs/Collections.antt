@@ -1,7 +1,7 @@
 -- Which bytes are a collection that is built, and what it says.
-use Rattle.std.specs.Prelude.{ℕ, ℤ, pos, negsuc, ◌+◌, ◌-◌, ◌^◌, Bool, true, false, List, [], ◌∷◌, ◌++◌}
+use Rattle.std.specs.Prelude.{ℕ, ℤ, pos, negsuc, ◌^◌, Bool, true, false, List, [], ◌∷◌}
 use Rattle.std.specs.Prelude.{length, take, drop, codes, bytes_eq, nat_le, nat_lt, ◌==◌}
-use Rattle.std.specs.Prelude.{Option, Some, None, option_and_then, option_map, is_ok, if◌then◌else◌}
+use Rattle.std.specs.Prelude.{Option, Some, None, option_and_then, option_map, if◌then◌else◌}
 use Rattle.std.specs.List.{list_all}
 use Rattle.std.specs.Option.{option_or}
 use Rattle.mix_base.specs.declared.json.Json.{Json}
@@ -19,10 +19,9 @@ use Rattle.mix_model.specs.declared.kind.Blend.TheVariants.{Normal}
 use Rattle.mix_model.specs.declared.settings.Settings.{Settings}
 use Rattle.mix_model.specs.declared.settings.Settings.TheVariants.{None as NoSettings}
 use Rattle.mix_model.specs.Texts.{kind_named}
-use Rattle.mix_model.specs.Values.{is_canvas, is_format}
+use Rattle.mix_model.specs.Values.{is_canvas, is_format, new_place}
 use Rattle.mix_sources.specs.Checked.{checked}
 use Rattle.mix_engine.specs.Openings.{can_open}
-use Rattle.mix_engine.specs.Places.{default_place}
 use Rattle.hex.specs.Hex.{decode_sized}
 use Rattle.std.specs.Result.{result_ok}
 use Rattle.mix_script.specs.Hexadecimal.{is_lower_digit}
@@ -214,7 +213,7 @@ item_from items = do
   parent ← name_from items.0
   child ← name_from items.1
   options ← option_and_then (where_it is_bare) (as_obj items.2)
-  Some (Item parent child true false default_place Normal)
+  Some (Item parent child true false new_place Normal)
 
 unfoldable pub item_in : List ℕ → Option Line
 item_in line =

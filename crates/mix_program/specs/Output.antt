@@ -1,14 +1,19 @@
 -- What a run writes, and how its lines follow from what actions are answered.
-use Rattle.std.specs.Prelude.{ℕ, List, [], ◌∷◌, ◌++◌, codes, decimal, Some, None}
+use Rattle.std.specs.Prelude.{ℕ, List, [], ◌++◌, codes, decimal, Some, None, IsTrue}
 use Rattle.std.specs.List.{flat_map}
 use Rattle.mix_model.specs.declared.said.Said.{Said}
 use Rattle.mix_model.specs.declared.reply.Reply.{Reply}
 use Rattle.mix_model.specs.declared.reply.Reply.TheVariants as reply
+use Rattle.mix_model.specs.Pictures.{picture_at}
+use Rattle.mix_model.specs.Plans.{is_shot, painted}
+use Rattle.mix_model.specs.State.{StudioState}
 use Rattle.mix_script.specs.Escapes.{escaped}
 use Rattle.mix_events.specs.Texts.{said_text}
 use Rattle.mix_engine.specs.declared.own.Own.{Own}
 use Rattle.mix_engine.specs.declared.own.Own.TheVariants.{Full, Gone, Left, Told, Closed}
+use Rattle.mix_engine.specs.declared.own.Own.TheVariants.{Frame, NoFrame, FrameGone, NoSuchFrame}
 use Rattle.mix_engine.specs.Answers.{Answered}
+use Rattle.mix_program.specs.PictureText.{frame_line}
 
 -- what a run writes to its two sinks, and the status that it ends with
 pub record Written : Type 0 where
@@ -32,26 +37,45 @@ text_line conn said = conn_line (codes ">c") conn (escaped (said_text said))
 abbrev pub told_lines : ℕ → List Said → List ℕ
 told_lines conn said = flat_map (text_line conn) said
 
--- the lines of what an action is answered: those of its texts, and of a close with its code. What is
--- not built yet has none
-abbrev pub lines_by : Own → List Said → List ℕ
-lines_by Full told = codes "+ full\n"
-lines_by (Gone conn) told = conn_line (codes "!c") conn (codes "gone")
-lines_by (Left conn) told = codes "-c" ++ (decimal conn ++ codes "\n")
-lines_by (Told conn) told = told_lines conn told
-lines_by (Closed conn code) told =
-    told_lines conn told ++ conn_line (codes "!c") conn (decimal code)
-lines_by _ told = []
+-- the line of a frame that is given back
+abbrev pub gone_line : ℕ → List ℕ
+gone_line number = codes "f " ++ (decimal number ++ codes "\n")
 
--- the same of a reply
-abbrev pub reply_lines : Reply → List ℕ
-reply_lines reply.Full = codes "+ full\n"
-reply_lines (reply.Gone conn) = conn_line (codes "!c") conn (codes "gone")
-reply_lines (reply.Left conn) = codes "-c" ++ (decimal conn ++ codes "\n")
-reply_lines (reply.Told conn told None due) = told_lines conn told
-reply_lines (reply.Told conn told (Some code) due) =
+-- the lines of what an action is answered: those of its texts, and of a close with its code. A frame
+-- is the picture of the studio in which it was found, at the tick of its number. What isn't built yet
+-- has none
+abbrev pub lines_by : Own → StudioState → List Said → List ℕ
+lines_by Full found told = codes "+ full\n"
+lines_by (Gone conn) found told = conn_line (codes "!c") conn (codes "gone")
+lines_by (Left conn) found told = codes "-c" ++ (decimal conn ++ codes "\n")
+lines_by (Told conn) found told = told_lines conn told
+lines_by (Closed conn code) found told =
     told_lines conn told ++ conn_line (codes "!c") conn (decimal code)
-reply_lines _ = []
+lines_by (Frame number recording) found told = frame_line number (picture_at found number)
+lines_by NoFrame found told = codes "v full\n"
+lines_by (FrameGone number) found told = gone_line number
+lines_by NoSuchFrame found told = codes "f none\n"
+lines_by _ found told = []
+
+-- the same of a reply, whose shots are painted on this canvas
+abbrev pub reply_lines : ℕ × ℕ → Reply → List ℕ
+reply_lines canvas reply.Full = codes "+ full\n"
+reply_lines canvas (reply.Gone conn) = conn_line (codes "!c") conn (codes "gone")
+reply_lines canvas (reply.Left conn) = codes "-c" ++ (decimal conn ++ codes "\n")
+reply_lines canvas (reply.Told conn told None due) = told_lines conn told
+reply_lines canvas (reply.Told conn told (Some code) due) =
+    told_lines conn told ++ conn_line (codes "!c") conn (decimal code)
+reply_lines canvas (reply.Frame number shot recording) =
+    frame_line number (painted shot number canvas)
+reply_lines canvas reply.NoFrame = codes "v full\n"
+reply_lines canvas (reply.FrameGone number) = gone_line number
+reply_lines canvas reply.NoSuchFrame = codes "f none\n"
+reply_lines canvas _ = []
+
+-- a shot of a reply can be painted at the tick of its frame's number
+abbrev pub IsPaintable : Reply → Type 0
+IsPaintable (reply.Frame number shot recording) = IsTrue (is_shot number shot)
+IsPaintable _ = Unit {0}
 
 abbrev pub lines_to : Answered → List ℕ
-lines_to a = lines_by a.own a.told
+lines_to a = lines_by a.own a.found a.told

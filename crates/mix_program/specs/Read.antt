@@ -1,12 +1,12 @@
 -- What the readers of a collection answer, over the lines that were left and are left.
 use Rattle.std.specs.Prelude.{◌≡◌, ℕ, ◌++◌, Bool, codes, true, false, List, []}
 use Rattle.std.specs.Prelude.{Option, Some, None, option_map, Result, Ok, Err}
-use Rattle.mix_base.specs.declared.rate.Rate.{Rate}
 use Rattle.mix_outside.specs.Lines.{Lines, Whole}
 use Rattle.mix_model.specs.declared.collection.Collection.{Collection}
 use Rattle.mix_model.specs.declared.collection.Line.{Line}
+use Rattle.mix_engine.specs.Openings.{IsFitting}
 use Rattle.mix_program.specs.Collections.{next, head_in, login_in, lines_in, collection_in}
-use Rattle.mix_program.specs.Collections.{is_end, name_in, last_in}
+use Rattle.mix_program.specs.Collections.{name_in, last_in}
 use Rattle.mix_program.specs.Collections.{Head as HeadLines}
 use Rattle.mix_program.specs.declared.collection.Fault.{Fault}
 use Rattle.mix_program.specs.declared.collection.Opened.{Opened}
@@ -63,7 +63,14 @@ OpensAll o.NotBuilt left = Unit {0}
 OpensAll o.ReadFault left = Unit {0}
 OpensAll o.NoMemory left = Unit {0}
 
--- the same where it gave a part that ends with the program's line
+-- and its values are in their ranges
+abbrev pub FitsAll : Opened → Type 0
+FitsAll (o.Collection collection) = IsFitting collection
+FitsAll o.NotBuilt = Unit {0}
+FitsAll o.ReadFault = Unit {0}
+FitsAll o.NoMemory = Unit {0}
+
+-- nothing is left, too, where reading gave a part that ends with the program's line
 abbrev pub Drains : {A : Type 0} → Result (Option A) Fault → List ℕ → Type 0
 Drains (Ok (Some a)) left = left ≡ []
 Drains (Ok None) left = Unit {0}

@@ -1,5 +1,5 @@
 -- What a run of a script writes, line by line.
-use Rattle.std.specs.Prelude.{ℕ, ◌+◌, ◌-◌, Bool, List, [], ◌∷◌, ◌++◌, length, nat_lt}
+use Rattle.std.specs.Prelude.{ℕ, ◌+◌, ◌-◌, List, [], ◌∷◌, ◌++◌, length, nat_lt}
 use Rattle.std.specs.Prelude.{Option, Some, None, Result, Ok, Err, codes, decimal, if◌then◌else◌}
 use Rattle.mix_base.specs.declared.limits.Limits.{Limits}
 use Rattle.mix_outside.specs.Lines.{Lines, End, Cut, Whole, lines_of}

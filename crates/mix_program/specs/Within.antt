@@ -1,5 +1,5 @@
 -- Lines of which no more than so many bytes are read.
-use Rattle.std.specs.Prelude.{◌≡◌, ℕ, ◌+◌, ◌-◌, Bool, true, false, List, ◌++◌, length}
+use Rattle.std.specs.Prelude.{◌≡◌, ℕ, ◌+◌, ◌-◌, List, ◌++◌, length}
 use Rattle.std.specs.Prelude.{nat_lt, if◌then◌else◌}
 use Rattle.mix_outside.specs.Lines.{Lines, End, Cut, Whole, lines_of}
 use Rattle.mix_program.specs.declared.collection.feed.Feed.{Feed}

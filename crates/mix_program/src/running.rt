@@ -1,6 +1,7 @@
 //! Running a script line by line.
 mod last_line;
 mod lines;
+mod pictures;
 mod script;
 
 pub use last_line::refuse_collection;

@@ -3,7 +3,7 @@ ghost use Rattle.std.specs.Prelude.{◌≡◌, ◌≢◌, ◌↔◌, ◌⊎◌, 
 ghost use Rattle.mix_outside.specs.Faults.{Rose};
 ghost use Rattle.mix_base.specs.Limits.{standard};
 ghost use Rattle.mix_engine.specs.Engines.{are_limits};
-ghost use Rattle.mix_engine.specs.Openings.{can_open};
+ghost use Rattle.mix_engine.specs.Openings.{can_open, IsFitting};
 ghost use Rattle.mix_program.specs.Collections.{collection_of, where_it};
 ghost use Rattle.mix_program.specs.Ends.{Ends, Finishes, Stops, status_at, IsWhole, IsTorn, IsStatus};
 ghost use Rattle.mix_program.specs.Run.{run_from};
@@ -37,6 +37,7 @@ fn run_opened<S: Source, K: Sink>(
     out: &mut K,
 ) -> Ended
     requires limits { IsTrue (are_limits limits) }
+    requires fits { IsFitting collection }
     ensures ends { S.Tells → K.Tells → Ends result (K.held out.old) (K.held out.new)
         (run_from limits (S.left script.old) (where_it can_open collection)) }
     ensures drained { S.Tells → result ≡ Ended.Whole Finished.Done → S.left script.new ≡ [] }

@@ -1,6 +1,7 @@
 //! The four lines at the head of a collection.
 ghost use Rattle.std.specs.Prelude.{◌≡◌, ◌≢◌, ◌≤◌, ◌<◌, Err, IfOk, IfSome, IsTrue};
-ghost use Rattle.mix_model.specs.Values.{is_canvas};
+ghost use Rattle.mix_base.specs.Rates.{is_rate};
+ghost use Rattle.mix_model.specs.Values.{is_canvas, is_format};
 ghost use Rattle.mix_outside.specs.Faults.{Rose};
 ghost use Rattle.mix_program.specs.Collections.{is_format_line};
 ghost use Rattle.mix_program.specs.Read.{Heads};
@@ -41,6 +42,9 @@ pub fn read_head<C: Source>(
     ensures head { C.Tells → Heads result
         (lines_left feed.old (C.left source.old)) (lines_left feed.new (C.left source.new)) }
     ensures canvas { IfOk result (λ head. IfSome head (λ h. IsTrue (is_canvas h.canvas))) }
+    ensures rate { IfOk result (λ head. IfSome head (λ h. IsTrue (is_rate h.rate))) }
+    ensures format { IfOk result
+        (λ head. IfSome head (λ h. IsTrue (is_format h.canvas h.i420 h.tracks))) }
     ensures later { C.faults source.old ≤ C.faults source.new }
     ensures cause { result ≡ Err Fault.ReadFault →
         Rose (C.faults source.old) (C.faults source.new) }

@@ -1,6 +1,7 @@
 //! What single lines of a collection say.
 ghost use Rattle.std.specs.Prelude.{◌≡◌, ◌<◌, true, IfOk, IfSome, IsTrue, option_and_then};
 ghost use Rattle.std.specs.List.{list_all};
+ghost use Rattle.mix_base.specs.Names.{is_name};
 ghost use Rattle.mix_base.specs.Rates.{is_rate};
 ghost use Rattle.mix_model.specs.Values.{is_canvas, is_format};
 ghost use Rattle.mix_program.specs.Collections.{canvas_in, rate_in, record_in, secret_in, name_in};
@@ -64,6 +65,7 @@ pub fn canvas_in(alloc: Global, line: &[u8]) -> Result<Option<(u32, u32)>, NoMem
 #[tactic(auto, unfolding(crate::specs::Collections::rate_in))]
 pub fn rate_in(alloc: Global, line: &[u8]) -> Result<Option<Rate>, NoMemory>
     ensures value { IfOk result (λ rate. rate ≡ rate_in line.now) }
+    ensures valid { IfOk result (λ rate. IfSome rate (λ r. IsTrue (is_rate r))) }
 {
     let Some(items) = list_behind(alloc, b"rate", line)? else {
         return Ok(None);
@@ -111,6 +113,8 @@ pub fn record_in(
     line: &[u8],
 ) -> Result<Option<(bool, u8)>, NoMemory>
     ensures value { IfOk result (λ format. format ≡ record_in canvas line.now) }
+    ensures valid { IfOk result
+        (λ format. IfSome format (λ f. IsTrue (is_format canvas f.0 f.1))) }
 {
     let Some(items) = list_behind(alloc, b"record", line)? else {
         return Ok(None);
@@ -172,12 +176,14 @@ pub fn secret_in(alloc: Global, line: &[u8]) -> Result<Option<(Text, Bytes32)>, 
 /// The name that a text is.
 pub fn name_from(value: &Json) -> Option<Name>
     ensures value { result ≡ name_from value.now }
+    ensures valid { IfSome result (λ name. IsTrue (is_name name)) }
 {
     Name::read(text_in(value)?.bytes()).ok()
 }
 
 fn only_name(items: &[Json]) -> Option<Name>
     ensures value { result ≡ option_and_then name_from (only_item items.now) }
+    ensures valid { IfSome result (λ name. IsTrue (is_name name)) }
 {
     match items {
         [value] => name_from(value),
@@ -189,6 +195,7 @@ fn only_name(items: &[Json]) -> Option<Name>
 #[tactic(auto, unfolding(crate::specs::Collections::name_in))]
 pub fn name_in(alloc: Global, word: &[u8], line: &[u8]) -> Result<Option<Name>, NoMemory>
     ensures value { IfOk result (λ name. name ≡ name_in word.now line.now) }
+    ensures valid { IfOk result (λ name. IfSome name (λ n. IsTrue (is_name n))) }
 {
     match list_behind(alloc, word, line)? {
         Some(items) => Ok(only_name(items.as_slice())),

@@ -1,8 +1,9 @@
 //! A whole collection.
-ghost use Rattle.std.specs.Prelude.{◌≡◌, ◌≢◌, ◌≤◌, ◌<◌, IfOk, Err};
+ghost use Rattle.std.specs.Prelude.{◌≡◌, ◌≢◌, ◌≤◌, ◌<◌, IfOk, IfSome, Err};
 ghost use Rattle.mix_outside.specs.Faults.{Rose};
 ghost use Rattle.mix_program.specs.Collections.{collection_read};
-ghost use Rattle.mix_program.specs.Read.{Opens, OpensAll, Collects, Drains};
+ghost use Rattle.mix_engine.specs.Openings.{IsFitting};
+ghost use Rattle.mix_program.specs.Read.{Opens, OpensAll, FitsAll, Collects, Drains};
 ghost use Rattle.mix_program.specs.Within.{lines_left};
 
 use crate::collection::feed::Feed;
@@ -22,6 +23,7 @@ fn read_lines<C: Source>(
     source: &mut C,
 ) -> Result<Option<Collection>, Fault>
     ensures collection { C.Tells → Collects result (lines_left feed.old (C.left source.old)) }
+    ensures fits { IfOk result (λ read. IfSome read IsFitting) }
     ensures drained { C.Tells → Drains result (C.left source.new) }
     ensures later { C.faults source.old ≤ C.faults source.new }
     ensures cause { result ≡ Err Fault.ReadFault →
@@ -55,6 +57,7 @@ fn read_lines<C: Source>(
 #[tactic(auto, using(crate::proofs::Bounds::bounded))]
 pub fn read_collection<C: Source>(alloc: Global, source: &mut C) -> Opened
     ensures value { C.Tells → Opens result (collection_read (C.left source.old)) }
+    ensures fits { FitsAll result }
     ensures drained { C.Tells → OpensAll result (C.left source.new) }
     ensures later { C.faults source.old ≤ C.faults source.new }
     ensures cause { result ≡ Opened.ReadFault → Rose (C.faults source.old) (C.faults source.new) }

@@ -1,8 +1,9 @@
 //! What a collection opens with, and the program's scene.
-ghost use Rattle.std.specs.Prelude.{◌≡◌, ◌≢◌, ◌≤◌, ◌<◌, Err, IsTrue};
+ghost use Rattle.std.specs.Prelude.{◌≡◌, ◌≢◌, ◌≤◌, ◌<◌, All, Err, IfOk, IfSome, IsTrue};
 ghost use Rattle.mix_model.specs.Values.{is_canvas};
 ghost use Rattle.mix_outside.specs.Faults.{Rose};
 ghost use Rattle.mix_outside.specs.Lines.{Whole};
+ghost use Rattle.mix_engine.specs.Openings.{Fits};
 ghost use Rattle.mix_program.specs.Collections.{last_in, name_in};
 ghost use Rattle.mix_program.specs.Read.{Registers, Ends, Drains};
 ghost use Rattle.mix_program.specs.Within.{lines_left};
@@ -33,6 +34,7 @@ pub fn read_registry<C: Source>(
     requires canvas { IsTrue (is_canvas canvas) }
     ensures registry { C.Tells → Registers canvas result
         (Whole feed.old.line.items (lines_left feed.old (C.left source.old))) }
+    ensures fits { IfOk result (λ registry. IfSome registry (λ r. All Fits r.lines)) }
     ensures drained { C.Tells → Drains result (C.left source.new) }
     ensures later { C.faults source.old ≤ C.faults source.new }
     ensures cause { result ≡ Err Fault.ReadFault →

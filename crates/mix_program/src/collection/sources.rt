@@ -1,7 +1,8 @@
 //! What the lines of scenes, inputs and items say.
 ghost use Rattle.std.specs.Prelude.{◌≡◌, IfOk, IfSome, IsTrue, option_and_then};
 ghost use Rattle.mix_model.specs.Rows.{is_input};
-ghost use Rattle.mix_model.specs.Values.{is_canvas};
+ghost use Rattle.mix_model.specs.Values.{is_canvas, are_settings};
+ghost use Rattle.mix_engine.specs.Openings.{Fits};
 ghost use Rattle.mix_program.specs.Collections.{three_items, kind_from, settings_from};
 ghost use Rattle.mix_program.specs.Collections.{input_from, item_from};
 ghost use Rattle.mix_program.specs.Collections.{scene_in, input_in, item_in, line_in};
@@ -9,14 +10,15 @@ ghost use Rattle.mix_program.specs.Collections.{scene_in, input_in, item_in, lin
 use crate::collection::fields::{list_behind, object_in, text_in};
 use crate::collection::lines::{name_from, name_in};
 use mix_base::{Json, JsonObj, NoMemory};
-use mix_engine::default_place;
+use mix_engine::new_place;
 use mix_model::{Blend, Kind, Line, Settings};
 use mix_sources::{SettingFault, check_settings, kind_of};
 use std::alloc::Global;
 
-#[tactic(auto, unfolding(crate::specs::Collections::scene_in))]
+#[tactic(auto, unfolding(crate::specs::Collections::scene_in, mix_model::specs::Collections::line_fits))]
 fn scene_in(alloc: Global, line: &[u8]) -> Result<Option<Line>, NoMemory>
     ensures value { IfOk result (λ scene. scene ≡ scene_in line.now) }
+    ensures fits { IfOk result (λ scene. IfSome scene Fits) }
 {
     match name_in(alloc, b"scene", line)? {
         Some(name) => Ok(Some(Line::Scene { name })),
@@ -42,6 +44,8 @@ fn settings_from(
     requires canvas { IsTrue (is_canvas canvas) }
     requires input { IsTrue (is_input kind) }
     ensures value { IfOk result (λ settings. settings ≡ settings_from canvas kind given.now) }
+    ensures valid { IfOk result
+        (λ settings. IfSome settings (λ s. IsTrue (are_settings kind s))) }
 {
     match check_settings(alloc, kind, &Settings::None, given, canvas) {
         Ok(settings) => Ok(Some(settings)),
@@ -50,10 +54,12 @@ fn settings_from(
     }
 }
 
+#[tactic(auto, unfolding(mix_model::specs::Collections::line_fits))]
 fn input_from(alloc: Global, canvas: (u32, u32), items: &[Json]) -> Result<Option<Line>, NoMemory>
     requires canvas { IsTrue (is_canvas canvas) }
     ensures value { IfOk result
         (λ input. input ≡ option_and_then (input_from canvas) (three_items items.now)) }
+    ensures fits { IfOk result (λ input. IfSome input Fits) }
 {
     let [id, name, given] = items else {
         return Ok(None);
@@ -81,6 +87,7 @@ fn input_from(alloc: Global, canvas: (u32, u32), items: &[Json]) -> Result<Optio
 fn input_in(alloc: Global, canvas: (u32, u32), line: &[u8]) -> Result<Option<Line>, NoMemory>
     requires canvas { IsTrue (is_canvas canvas) }
     ensures value { IfOk result (λ input. input ≡ input_in canvas line.now) }
+    ensures fits { IfOk result (λ input. IfSome input Fits) }
 {
     match list_behind(alloc, b"input", line)? {
         Some(items) => input_from(alloc, canvas, items.as_slice()),
@@ -88,8 +95,10 @@ fn input_in(alloc: Global, canvas: (u32, u32), line: &[u8]) -> Result<Option<Lin
     }
 }
 
+#[tactic(auto, unfolding(mix_model::specs::Collections::line_fits))]
 fn item_from(items: &[Json]) -> Option<Line>
     ensures value { result ≡ option_and_then item_from (three_items items.now) }
+    ensures fits { IfSome result Fits }
 {
     let [parent, child, options] = items else {
         return None;
@@ -104,7 +113,7 @@ fn item_from(items: &[Json]) -> Option<Line>
         child,
         enabled: true,
         locked: false,
-        place: default_place(),
+        place: new_place(),
         blend: Blend::Normal,
     })
 }
@@ -112,6 +121,7 @@ fn item_from(items: &[Json]) -> Option<Line>
 #[tactic(auto, unfolding(crate::specs::Collections::item_in))]
 fn item_in(alloc: Global, line: &[u8]) -> Result<Option<Line>, NoMemory>
     ensures value { IfOk result (λ item. item ≡ item_in line.now) }
+    ensures fits { IfOk result (λ item. IfSome item Fits) }
 {
     match list_behind(alloc, b"item", line)? {
         Some(items) => Ok(item_from(items.as_slice())),
@@ -125,6 +135,7 @@ fn item_in(alloc: Global, line: &[u8]) -> Result<Option<Line>, NoMemory>
 pub fn line_in(alloc: Global, canvas: (u32, u32), line: &[u8]) -> Result<Option<Line>, NoMemory>
     requires canvas { IsTrue (is_canvas canvas) }
     ensures value { IfOk result (λ found. found ≡ line_in canvas line.now) }
+    ensures fits { IfOk result (λ found. IfSome found Fits) }
 {
     if let Some(scene) = scene_in(alloc, line)? {
         return Ok(Some(scene));

@@ -1,16 +1,21 @@
 //! The lines of what an action is answered.
-ghost use Rattle.std.specs.Prelude.{◌≡◌, ◌≢◌, ◌≤◌, ◌++◌, All, codes, decimal};
+ghost use Rattle.std.specs.Prelude.{◌≡◌, ◌≢◌, ◌≤◌, ◌++◌, All, IsTrue, codes, decimal};
 ghost use Rattle.mix_outside.specs.Faults.{Rose};
+ghost use Rattle.mix_model.specs.Plans.{is_shot, painted};
 ghost use Rattle.mix_events.specs.Sayable.{IsSayable};
 ghost use Rattle.mix_engine.specs.Answers.{IsSayableReply};
 ghost use Rattle.mix_program.specs.Ends.{Puts};
-ghost use Rattle.mix_program.specs.Output.{conn_line, text_line, told_lines, reply_lines};
+ghost use Rattle.mix_program.specs.Output.{conn_line, text_line, told_lines, gone_line};
+ghost use Rattle.mix_program.specs.Output.{reply_lines, IsPaintable};
+ghost use Rattle.mix_program.specs.PictureText.{frame_line};
 
 use crate::running::Wrote;
+use crate::running::pictures::frame_line;
 use mix_base::ConnId;
 use mix_events::said_text;
-use mix_model::{Reply, Said};
+use mix_model::{Reply, Said, Shot};
 use mix_outside::{Put, Sink};
+use mix_raster::paint;
 use mix_script::escape;
 use std::alloc::Global;
 
@@ -134,10 +139,50 @@ fn put_closed<K: Sink>(alloc: Global, out: &mut K, conn: ConnId, told: &[Said], 
     }
 }
 
-/// Writes the lines of a reply.
-pub fn put_reply<K: Sink>(alloc: Global, out: &mut K, reply: &Reply) -> Wrote
-    requires { IsSayableReply reply.now }
-    ensures bytes { K.Tells → Puts result (reply_lines reply.now)
+/// The line of a frame: its shot, painted at the tick of its number.
+#[tactic(auto, using(crate::proofs::Pieces::nothing_put))]
+fn put_frame<K: Sink>(
+    alloc: Global,
+    out: &mut K,
+    canvas: (u32, u32),
+    number: u64,
+    shot: &Shot,
+) -> Wrote
+    requires shot { IsTrue (is_shot number shot.now) }
+    ensures bytes { K.Tells → Puts result (frame_line number (painted shot.now number canvas))
+        (K.held out.old) (K.held out.new) }
+    ensures later { K.faults out.old ≤ K.faults out.new }
+    ensures cause { result ≡ Wrote.WriteFault → Rose (K.faults out.old) (K.faults out.new) }
+    ensures steady { result ≢ Wrote.WriteFault → K.faults out.new ≡ K.faults out.old }
+{
+    let Ok(picture) = paint(alloc, shot, number, canvas) else {
+        return Wrote::NoMemory;
+    };
+    match frame_line(alloc, number, &picture) {
+        Ok(line) => put(out, line.as_bytes()),
+        Err(_) => Wrote::NoMemory,
+    }
+}
+
+/// The line of a frame that was given back.
+#[tactic(auto, using(crate::proofs::Pieces::nothing_put))]
+fn put_frame_gone<K: Sink>(alloc: Global, out: &mut K, number: u64) -> Wrote
+    ensures bytes { K.Tells → Puts result (gone_line number) (K.held out.old) (K.held out.new) }
+    ensures later { K.faults out.old ≤ K.faults out.new }
+    ensures cause { result ≡ Wrote.WriteFault → Rose (K.faults out.old) (K.faults out.new) }
+    ensures steady { result ≢ Wrote.WriteFault → K.faults out.new ≡ K.faults out.old }
+{
+    match format!(in alloc; "f {number}\n") {
+        Ok(line) => put(out, line.as_bytes()),
+        Err(_) => Wrote::NoMemory,
+    }
+}
+
+/// Writes the lines of a reply, and paints its shot on this canvas.
+pub fn put_reply<K: Sink>(alloc: Global, out: &mut K, canvas: (u32, u32), reply: &Reply) -> Wrote
+    requires sayable { IsSayableReply reply.now }
+    requires paintable { IsPaintable reply.now }
+    ensures bytes { K.Tells → Puts result (reply_lines canvas reply.now)
         (K.held out.old) (K.held out.new) }
     ensures later { K.faults out.old ≤ K.faults out.new }
     ensures cause { result ≡ Wrote.WriteFault → Rose (K.faults out.old) (K.faults out.new) }
@@ -156,6 +201,10 @@ pub fn put_reply<K: Sink>(alloc: Global, out: &mut K, reply: &Reply) -> Wrote
             Some(code) => put_closed(alloc, out, *conn, said.as_slice(), *code),
             None => put_told(alloc, out, *conn, said.as_slice()),
         },
-        _ => Wrote::All,
+        Reply::Frame { number, shot, .. } => put_frame(alloc, out, canvas, *number, shot),
+        Reply::NoFrame => put(out, b"v full\n"),
+        Reply::FrameGone { number } => put_frame_gone(alloc, out, *number),
+        Reply::NoSuchFrame => put(out, b"f none\n"),
+        Reply::Block { .. } | Reply::Destroyed(_) | Reply::Nothing => Wrote::All,
     }
 }

@@ -41,8 +41,9 @@ fn act<K: Sink>(
         pass: 0,
         number: number - 1,
     };
+    let canvas = engine.canvas();
     match engine.act(alloc, from, action) {
-        Ok(Some(answer)) => match put_reply(alloc, out, &answer.reply) {
+        Ok(Some(answer)) => match put_reply(alloc, out, canvas, &answer.reply) {
             Wrote::All => None,
             Wrote::WriteFault => Some(Ended::WriteFault),
             Wrote::NoMemory => Some(Ended::NoMemory),

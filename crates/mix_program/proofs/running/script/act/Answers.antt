@@ -1,11 +1,19 @@
-use Rattle.std.proofs.Common.{◌≡◌}
-use Rattle.mix_program.proofs.Runs.{was_tried, act_goes, act_stops}
+use Rattle.mix_program.proofs.Runs.{was_tried, act_goes, act_stops, reply_paintable}
 use Rattle.mix_program.proofs.running.script.act.Goals as goal
+
+-- the shot of the answer can be painted
+pub put_reply-requires-clause-paintable : goal.put_reply-requires-clause-paintable
+put_reply-requires-clause-paintable g c = reply_paintable _ _ _ _ _
+    (was_tried c.in-Ok-Some.field-0
+    c.in-Ok-Some.answer c.args.engine.now c.act.new.self c.args.number c.args.action
+    c.in-Ok-Some.field-0-is c.in-Ok-Some.ensures.built c.in-Ok-Some.ensures.reply
+    c.in-Ok-Some.ensures.state).agrees.reply
 
 -- the lines are written, and the run goes on
 pub returns-in-All-clause-turned : goal.returns-in-All-clause-turned
-returns-in-All-clause-turned g c = λ tells rest. act_goes c.in-Ok-Some.answer c.args.engine.now
-    c.act.new.self c.args.number c.args.action rest _ _ c.requires.number
+returns-in-All-clause-turned g c = λ tells rest. act_goes c.canvas-canvas.result c.in-Ok-Some.answer
+    c.args.engine.now c.act.new.self c.args.number c.args.action rest _ _ c.canvas-canvas.ensures.value
+    c.requires.number
     (was_tried c.in-Ok-Some.field-0
     c.in-Ok-Some.answer c.args.engine.now c.act.new.self c.args.number c.args.action
     c.in-Ok-Some.field-0-is c.in-Ok-Some.ensures.built c.in-Ok-Some.ensures.reply
@@ -14,8 +22,9 @@ returns-in-All-clause-turned g c = λ tells rest. act_goes c.in-Ok-Some.answer c
 
 -- a front of the lines is written
 pub returns-in-WriteFault-clause-turned : goal.returns-in-WriteFault-clause-turned
-returns-in-WriteFault-clause-turned g c = λ tells rest. act_stops c.in-Ok-Some.answer
-    c.args.engine.now c.act.new.self c.args.number c.args.action rest _ _
+returns-in-WriteFault-clause-turned g c = λ tells rest. act_stops c.canvas-canvas.result
+    c.in-Ok-Some.answer c.args.engine.now c.act.new.self c.args.number c.args.action rest _ _
+    c.canvas-canvas.ensures.value
     (was_tried c.in-Ok-Some.field-0
     c.in-Ok-Some.answer c.args.engine.now c.act.new.self c.args.number c.args.action
     c.in-Ok-Some.field-0-is c.in-Ok-Some.ensures.built c.in-Ok-Some.ensures.reply
@@ -23,8 +32,9 @@ returns-in-WriteFault-clause-turned g c = λ tells rest. act_stops c.in-Ok-Some.
     (c.in-WriteFault.ensures.bytes tells)
 
 pub returns-in-Ok-Some-clause-turned : goal.returns-in-Ok-Some-clause-turned
-returns-in-Ok-Some-clause-turned g c = λ tells rest. act_stops c.in-Ok-Some.answer
-    c.args.engine.now c.act.new.self c.args.number c.args.action rest _ _
+returns-in-Ok-Some-clause-turned g c = λ tells rest. act_stops c.canvas-canvas.result
+    c.in-Ok-Some.answer c.args.engine.now c.act.new.self c.args.number c.args.action rest _ _
+    c.canvas-canvas.ensures.value
     (was_tried c.in-Ok-Some.field-0
     c.in-Ok-Some.answer c.args.engine.now c.act.new.self c.args.number c.args.action
     c.in-Ok-Some.field-0-is c.in-Ok-Some.ensures.built c.in-Ok-Some.ensures.reply

@@ -1,8 +1,8 @@
-use Rattle.std.proofs.Common.{rules, ◌≡◌, ◌<◌, ◌≤◌, ◌+◌, ◌-◌, arith, ap, sym, ◌∙◌, length, refl, []}
+use Rattle.std.proofs.Common.{◌≡◌, ◌<◌, ◌-◌, arith, ap, ◌∙◌, length, refl}
 use Rattle.std.proofs.lemmas.Grind.{common_steps}
 use Rattle.std.proofs.lemmas.Bool.Decides.{nat_tests}
 use Rattle.mix_program.proofs.Runs.{whole_ends, whole_goes, past_ends, cut_ends, limit_is, fits_line}
-use Rattle.mix_program.proofs.Runs.{second_empty, last_ends}
+use Rattle.mix_program.proofs.Runs.{last_ends, no_longer, second_empty}
 use Rattle.mix_program.proofs.running.script.replay.Goals as goal
 
 pub returns-in-Some-clause-ends : goal.returns-in-Some-clause-ends
@@ -18,15 +18,17 @@ returns-in-Last-clause-ends g c = λ s k. cut_ends _ _ _ _ c.args.limits _ _ _ _
     (grind (arith, common_steps, nat_tests)) c.in-Last.ensures.fits c.lines.invariant.number
     (c.refuse.ensures.ends k)
 
-pub returns-then-is_empty-clause-ends : goal.returns-then-is_empty-clause-ends
-returns-then-is_empty-clause-ends g c = λ s k. last_ends _ _ [] _ c.args.limits _ _ _ _ _
-    (limit_is c.args.limits _ _ _ _ c.lines.invariant.number c.limit_of-limit.ensures.value)
-    (c.lines.invariant.goes s k) _ (c.in-Last.ensures.lines s)
-    (search rules)
-
 pub returns-then-is_empty-clause-drained : goal.returns-then-is_empty-clause-drained
 returns-then-is_empty-clause-drained g c = λ s done. second_empty _ _
     (c.in-Last.ensures.end s refl)
+
+-- nothing is left
+pub returns-then-is_empty-clause-ends : goal.returns-then-is_empty-clause-ends
+returns-then-is_empty-clause-ends g c = λ s k. last_ends _ _ (g.K.Sink.held c.lines.out) _
+    c.args.limits _ _ _ _ _
+    (limit_is c.args.limits _ _ _ _ c.lines.invariant.number c.limit_of-limit.ensures.value)
+    (c.lines.invariant.goes s k) _ (c.in-Last.ensures.lines s)
+    (no_longer c.next_line.new.line.len _ c.if-is_empty.ensures (omega arith))
 
 pub returns-in-Past-clause-ends : goal.returns-in-Past-clause-ends
 returns-in-Past-clause-ends g c = λ s k. past_ends _ _ _ _ c.args.limits _ _ _ _ _

@@ -1,4 +1,4 @@
-use Rattle.std.proofs.Common.{◌≡◌, ◌≤◌, ◌+◌, ◌-◌, ◌++◌, [], length}
+use Rattle.std.proofs.Common.{◌≡◌, ◌≤◌, ◌+◌, ◌++◌, [], length}
 use Rattle.mix_outside.specs.Lines.{lines_of}
 use Rattle.mix_engine.specs.Engines.{text_bytes}
 use Rattle.mix_program.specs.Run.{run}
