@@ -71,7 +71,7 @@ fn first_conversation(rt: HostRuntime) -> Result<(), Fail> {
 #[test]
 fn first_line_that_is_not_built(rt: HostRuntime) -> Result<(), Fail> {
     let alloc = rt.alloc();
-    let first = first_and(alloc, &["v"], &["not built: line 6"])?;
+    let first = first_and(alloc, &["a"], &["not built: line 6"])?;
     expect(
         &rt,
         alloc,

@@ -125,7 +125,7 @@ fn an_output_that_fails_at_any_write_keeps_what_was_written(rt: HostRuntime) -> 
 #[test]
 fn a_last_line_may_fail_too(rt: HostRuntime) -> Result<(), Fail> {
     let alloc = rt.alloc();
-    let first = first_and(alloc, &["v"], &[])?;
+    let first = first_and(alloc, &["a"], &[])?;
     let given_last = Given {
         unwritten: &[5],
         ..first.replay()

@@ -33,7 +33,7 @@ fn faulty_words_give_nothing(rt: HostRuntime) -> Result<(), Fail> {
 
 /// Lines in the place of one line of the first collection, counted from 1, that make it one that
 /// isn't built.
-static LINES: [(usize, &str); 53] = [
+static LINES: [(usize, &str); 57] = [
     (1, ""),
     (1, "mixer-collection 2\n"),
     (1, "mixer-collection 1 \n"),
@@ -74,10 +74,17 @@ static LINES: [(usize, &str); 53] = [
     (5, "scene [\"\\n\"]\n"),
     (5, "scene [\"B\"]\n"),
     (5, "scene [\"A\"]\nscene [\"A\"]\n"),
-    (5, "scene [\"A\"]\ninput [\"color_source_v3\",\"red\",{}]\n"),
+    (5, "scene [\"A\"]\ninput [\"color_source_v3\",\"A\",{}]\n"),
+    (5, "scene [\"A\"]\ninput [\"color_source\",\"red\",{}]\n"),
     (
         5,
-        "scene [\"A\"]\ninput [\"color_source_v3\",\"red\",{}]\nitem [\"A\",\"red\",{}]\n",
+        "scene [\"A\"]\ninput [\"color_source_v3\",\"red\",{\"width\":0}]\n",
+    ),
+    (5, "scene [\"A\"]\nitem [\"A\",\"red\",{}]\n"),
+    (5, "scene [\"A\"]\nitem [\"A\",\"A\",{}]\n"),
+    (
+        5,
+        "scene [\"A\"]\ninput [\"color_source_v3\",\"red\",{}]\nitem [\"red\",\"red\",{}]\n",
     ),
     (5, "scene [\"A\"]\ngroup [\"G\",\"A\",{}]\n"),
     (5, "scene [\"A\"]\ntransition [\"Cut\",300]\n"),
@@ -128,7 +135,7 @@ fn collections_that_are_not_built_end_the_run(rt: HostRuntime) -> Result<(), Fai
 }
 
 /// Lines in the place of one line of the first collection that leave it one that is built.
-static BUILT: [(usize, &str); 9] = [
+static BUILT: [(usize, &str); 11] = [
     (2, "canvas [4096,510]\n"),
     (2, "canvas [ 2 , 1 ] \n"),
     (3, "rate [240,1]\n"),
@@ -139,6 +146,11 @@ static BUILT: [(usize, &str); 9] = [
     (
         5,
         "secret [\"\",\"0000000000000000000000000000000000000000000000000000000000000000\"]\nscene [\"A\"]\n",
+    ),
+    (5, "scene [\"A\"]\ninput [\"color_source_v3\",\"red\",{}]\n"),
+    (
+        5,
+        "scene [\"A\"]\ninput [\"color_source_v3\",\"red\",{}]\nitem [\"A\",\"red\",{}]\n",
     ),
     (6, "program [\"A\"]\n"),
 ];
