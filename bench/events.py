@@ -11,15 +11,12 @@ with 1 and with 63 others: what an action costs for which nobody is told anythin
 answer is missing.
 """
 
-import os
 import pathlib
-import subprocess
 import sys
 import tempfile
 
-HOME = pathlib.Path(__file__).resolve().parent.parent
-PROGRAM = HOME / "crates/lenkhov/out/lenkhov"
-COLLECTION = HOME / "examples/first.collection"
+from measuring import FIRST, program_named, replay
+
 EVENTS = 100_000
 BETWEEN = 2_000
 ALL = 4294574079
@@ -49,26 +46,23 @@ def measure(program, folder, others, mask):
     counted."""
     script, record = folder / "script", folder / "record"
     write_script(script, others, mask)
-    words = [program, "replay", COLLECTION, script, record]
-    run = subprocess.Popen(words, stdout=subprocess.PIPE)
     answers = events = 0
-    for line in run.stdout:
+
+    def look(line):
+        nonlocal answers, events
         answers += b'"code":100' in line
         events += b'"op":5' in line
-    _, ended, used = os.wait4(run.pid, 0)
-    status = os.waitstatus_to_exitcode(ended)
-    run.returncode = status
+
+    status, seconds, memory = replay(program, FIRST, script, record, look)
     told = EVENTS * others if mask else 0
     if (status, answers, events) != (0, EVENTS, told):
         found = f"status {status}, {answers} answers, {events} events"
         sys.exit(f"{others} others: {found}; wanted are 0, {EVENTS}, {told}")
-    return used.ru_utime + used.ru_stime, used.ru_maxrss * 1024
+    return seconds, memory
 
 
 def main():
-    program = pathlib.Path(sys.argv[1]) if len(sys.argv) > 1 else PROGRAM
-    if not program.is_file():
-        sys.exit(f"{program} isn't there: `rt run` in crates/lenkhov builds it")
+    program = program_named(sys.argv[1:])
     with tempfile.TemporaryDirectory() as folder:
         place = pathlib.Path(folder)
         for others, mask in ((63, ALL), (1, 0), (63, 0)):

@@ -11,15 +11,12 @@ is 2 where the time for a request doesn't depend on how many came before. Ends w
 is missing.
 """
 
-import os
 import pathlib
-import subprocess
 import sys
 import tempfile
 
-HOME = pathlib.Path(__file__).resolve().parent.parent
-PROGRAM = HOME / "crates/lenkhov/out/lenkhov"
-COLLECTION = HOME / "examples/first.collection"
+from measuring import FIRST, program_named, replay
+
 SIZES = (100_000, 200_000)
 NAMES = 8
 
@@ -44,32 +41,26 @@ def write_script(path, requests):
 def measure(program, folder, requests):
     """The seconds of processor time and the most bytes of memory of one run, after a look at all that
     it wrote."""
-    script, output, record = (folder / name for name in ("script", "output", "record"))
+    script, record = folder / "script", folder / "record"
     write_script(script, requests)
-    words = [program, "replay", COLLECTION, script, record]
-    with open(output, "wb") as file:
-        run = subprocess.Popen(words, stdout=file)
-        _, ended, used = os.wait4(run.pid, 0)
-        seconds = used.ru_utime + used.ru_stime
-    status = os.waitstatus_to_exitcode(ended)
-    run.returncode = status
     done = made = known = 0
-    with open(output, encoding="utf-8") as file:
-        for line in file:
-            done += 1
-            made += '"responseData":{"sceneUuid"' in line
-            known += '"code":601' in line
+
+    def look(line):
+        nonlocal done, made, known
+        done += 1
+        made += b'"responseData":{"sceneUuid"' in line
+        known += b'"code":601' in line
+
+    status, seconds, memory = replay(program, FIRST, script, record, look)
     wanted = (0, requests + 2, NAMES, requests // 2 - NAMES)
     if (status, done, made, known) != wanted:
         found = f"status {status}, {done} lines, {made} scenes made, {known} names known"
         sys.exit(f"{requests} requests: {found}; wanted are {wanted}")
-    return seconds, used.ru_maxrss * 1024
+    return seconds, memory
 
 
 def main():
-    program = pathlib.Path(sys.argv[1]) if len(sys.argv) > 1 else PROGRAM
-    if not program.is_file():
-        sys.exit(f"{program} isn't there: `rt run` in crates/lenkhov builds it")
+    program = program_named(sys.argv[1:])
     times = []
     with tempfile.TemporaryDirectory() as folder:
         for requests in SIZES:

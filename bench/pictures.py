@@ -12,14 +12,12 @@ doesn't depend on how many came before. Ends with 1 where a picture is missing o
 must be.
 """
 
-import os
 import pathlib
-import subprocess
 import sys
 import tempfile
 
-HOME = pathlib.Path(__file__).resolve().parent.parent
-PROGRAM = HOME / "crates/lenkhov/out/lenkhov"
+from measuring import program_named, replay
+
 SIDE = 8
 ITEMS = (1, 12, 100)
 FEW = 20_000
@@ -61,32 +59,35 @@ def write_script(path, pictures):
         file.writelines(f"v\nf {number}\n" for number in range(pictures))
 
 
+def lines_wanted(items, pictures):
+    """The lines of the output, in their order."""
+    picture = painted(items)
+    for number in range(pictures):
+        yield f"v {number} {picture}\n".encode("ascii")
+        yield f"f {number}\n".encode("ascii")
+
+
 def measure(program, folder, items, pictures):
     """The seconds of processor time and the most bytes of memory of one run, after a look at all that it
     wrote."""
     collection, script, record = (folder / name for name in ("collection", "script", "record"))
     write_collection(collection, items)
     write_script(script, pictures)
-    words = [program, "replay", collection, script, record]
-    run = subprocess.Popen(words, stdout=subprocess.PIPE, text=True)
-    picture = painted(items)
+    wanted = lines_wanted(items, pictures)
     right = 0
-    for place, line in enumerate(run.stdout):
-        number = place // 2
-        wanted = f"v {number} {picture}\n" if place % 2 == 0 else f"f {number}\n"
-        right += line == wanted
-    _, ended, used = os.wait4(run.pid, 0)
-    status = os.waitstatus_to_exitcode(ended)
-    run.returncode = status
+
+    def look(line):
+        nonlocal right
+        right += line == next(wanted, None)
+
+    status, seconds, memory = replay(program, collection, script, record, look)
     if (status, right) != (0, 2 * pictures):
         sys.exit(f"{items} items: status {status}, {right} lines are right of {2 * pictures}")
-    return used.ru_utime + used.ru_stime, used.ru_maxrss * 1024
+    return seconds, memory
 
 
 def main():
-    program = pathlib.Path(sys.argv[1]) if len(sys.argv) > 1 else PROGRAM
-    if not program.is_file():
-        sys.exit(f"{program} isn't there: `rt run` in crates/lenkhov builds it")
+    program = program_named(sys.argv[1:])
     with tempfile.TemporaryDirectory() as folder:
         place = pathlib.Path(folder)
         for items in ITEMS:

@@ -1,5 +1,5 @@
 #!/usr/bin/env python3
-"""Refuses each allocation of the program in turn, over the first conversation.
+"""Refuses each allocation of the program in turn, over the first example.
 
     tools/refused_program.py [PROGRAM]
 
