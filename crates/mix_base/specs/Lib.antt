@@ -4,5 +4,6 @@ pub mod Limits
 pub mod Members
 pub mod Names
 pub mod Rates
+pub mod Texts
 pub mod Uuids
 pub mod formers

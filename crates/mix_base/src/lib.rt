@@ -11,6 +11,7 @@ mod no_memory;
 mod numbers;
 mod rate;
 mod shared;
+mod shelf;
 #[cfg(test)]
 mod tests;
 mod text;
@@ -26,6 +27,7 @@ pub use no_memory::NoMemory;
 pub use numbers::{ConnId, ItemId, Key, PassNo, Serial};
 pub use rate::{Rate, frames_of};
 pub use shared::SharedBytes;
+pub use shelf::Shelf;
 pub use text::{Text, TextFault};
 pub use uuids::uuid_text;
 

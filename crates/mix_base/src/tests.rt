@@ -1,6 +1,7 @@
 //! What takes memory answers what it is asked for, and the numbers are those of the rules.
 use crate::{
-    Json, JsonList, JsonObj, Name, NameFault, Rate, Serial, SharedBytes, Text, frames_of, uuid_text,
+    Json, JsonList, JsonObj, Name, NameFault, Rate, Serial, SharedBytes, Shelf, Text, frames_of,
+    uuid_text,
 };
 use std::test::Fail;
 
@@ -13,6 +14,39 @@ fn texts_and_bytes_are_kept_and_shared(rt: HostRuntime) -> Result<(), Fail> {
     assert!(rt; bytes.share()?.bytes() == "Größe".as_bytes());
     let serial = uuid_text(rt.alloc(), Serial(0xAB12))?;
     assert_eq!(rt; serial.as_str(), "00000000-0000-8000-8000-00000000ab12");
+    Ok(())
+}
+
+#[test]
+fn a_text_that_is_too_long_for_its_value_is_shared(rt: HostRuntime) -> Result<(), Fail> {
+    for length in [0, 40, 41, 500] {
+        let bytes = vec![in rt.alloc(); b'n'; length]?;
+        let text = Text::read(rt.alloc(), bytes.as_slice())?;
+        let same = Text::from_string(String::from_str(rt.alloc(), text.as_str())?)?;
+        assert!(rt; text.share()?.bytes() == bytes.as_slice(), "{length} bytes");
+        assert!(rt; same.share()?.bytes() == bytes.as_slice(), "{length} bytes");
+    }
+    Ok(())
+}
+
+#[test]
+fn texts_on_a_shelf_are_what_they_were(rt: HostRuntime) -> Result<(), Fail> {
+    let mut shelf = Shelf::new(rt.alloc());
+    let mut kept = Vec::new(rt.alloc());
+    for number in 0..300_usize {
+        let length = number * 37 % 501;
+        let bytes = vec![in rt.alloc(); b'a' + (number % 26) as u8; length]?;
+        kept.push(shelf.keep(Text::read(rt.alloc(), bytes.as_slice())?))?;
+    }
+    let long = vec![in rt.alloc(); b'z'; 5000]?;
+    let long = shelf.keep(Text::read(rt.alloc(), long.as_slice())?);
+    assert_eq!(rt; long.bytes().len(), 5000);
+    assert!(rt; long.bytes().iter().all(|b| *b == b'z'));
+    for (number, text) in kept.iter().enumerate() {
+        let letter = b'a' + (number % 26) as u8;
+        assert_eq!(rt; text.bytes().len(), number * 37 % 501);
+        assert!(rt; text.bytes().iter().all(|b| *b == letter), "text {number}");
+    }
     Ok(())
 }
 

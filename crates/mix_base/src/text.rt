@@ -2,9 +2,10 @@
 ghost use Rattle.std.specs.Prelude.{◌≡◌, ◌↔◌, IfOk, IsUtf8, string_bytes};
 
 use crate::NoMemory;
-use std::alloc::{AllocError, Global};
+use arrayvec::ArrayString;
+use bytes::ByteStr;
+use std::alloc::Global;
 use std::marker::Model;
-use std::sync::ArcStr;
 
 /// Why bytes are no text.
 #[derive(Clone, Copy, Debug, PartialEq, Eq)]
@@ -26,19 +27,32 @@ impl From<NoMemory> for TextFault {
     }
 }
 
-/// A text in UTF-8. Contracts see its bytes.
+/// The most bytes of a text that stands in its value.
+pub(crate) const SHORT: usize = 40;
+
+/// Where a text stands.
+#[derive(Drop)]
+enum Place {
+    /// In the value itself, where it has at most 40 bytes.
+    Here(ArrayString<SHORT>),
+    /// In a block that is shared, which may hold other texts too.
+    Block(ByteStr),
+}
+
+/// A text in UTF-8. Contracts see its bytes. One of at most 40 bytes, as keys and UUIDs are, stands
+/// in the value itself and takes no memory; a longer one is shared.
 #[derive(Drop)]
 pub struct Text {
-    text: ArcStr,
+    place: Place,
 }
 
 impl Model for Text {
     ghost use Rattle.std.specs.Prelude.{ℕ, List};
-    ghost use Rattle.std.specs.Arc.{arc_str_bytes};
+    ghost use Rattle.mix_base.specs.Texts.{bytes_at};
 
     ghost Value = { List ℕ };
 
-    ghost view = { λ text. arc_str_bytes text.text };
+    ghost view = { λ text. bytes_at text.place };
 }
 
 impl Text {
@@ -57,24 +71,48 @@ impl Text {
     pub fn from_str(alloc: Global, text: &str) -> Result<Text, NoMemory>
         ensures value { IfOk result (λ copy. copy ≡ text.now) }
     {
-        let text = ArcStr::from_str(alloc, text)?;
-        Ok(Text { text })
+        if let Ok(text) = ArrayString::from(text) {
+            return Ok(Text::here(text));
+        }
+        Ok(Text::in_block(ByteStr::copy_from_str(alloc, text)?))
     }
 
     /// Takes over the bytes of a string.
     pub fn from_string(text: String) -> Result<Text, NoMemory>
         ensures value { IfOk result (λ shared. shared ≡ string_bytes text) }
     {
-        let text = ArcStr::from_string(text)?;
-        Ok(Text { text })
+        if let Ok(text) = ArrayString::from(text.as_str()) {
+            return Ok(Text::here(text));
+        }
+        Ok(Text::in_block(ByteStr::from_string(text)?))
     }
 
-    /// The same text once more: no byte is copied.
+    /// A short text, in the value itself.
+    fn here(text: ArrayString<SHORT>) -> Text
+        ensures value { result ≡ text.bytes }
+    {
+        Text {
+            place: Place::Here(text),
+        }
+    }
+
+    /// A text that stands in a block.
+    pub(crate) fn in_block(text: ByteStr) -> Text
+        ensures value { result ≡ text }
+    {
+        Text {
+            place: Place::Block(text),
+        }
+    }
+
+    /// The same text once more: its block is shared.
     pub fn share(&self) -> Result<Text, NoMemory>
         ensures value { IfOk result (λ text. text ≡ self.now) }
     {
-        let text = self.text.clone()?;
-        Ok(Text { text })
+        match &self.place {
+            Place::Here(text) => Ok(Text::here(*text)),
+            Place::Block(text) => Ok(Text::in_block(text.clone()?)),
+        }
     }
 
     pub fn bytes(&self) -> &[u8]
@@ -86,6 +124,9 @@ impl Text {
     pub fn as_str(&self) -> &str
         ensures value { result.now ≡ self.now }
     {
-        self.text.as_str()
+        match &self.place {
+            Place::Here(text) => text.as_str(),
+            Place::Block(text) => text.as_str(),
+        }
     }
 }
