@@ -11,8 +11,8 @@ ghost use Rattle.mix_model.specs.WholeShape.{StudioShape};
 ghost use Rattle.mix_engine.specs.Spoken.{HasShot, IsSaid};
 
 use crate::{ActFault, Full, Head, Mixing, Own, Setup, Spoken};
-use mix_base::{ListOf, NoMemory, PassNo};
-use mix_model::{Action, Answer, Entry, Reply};
+use mix_base::{ListOf, NoMemory, PassNo, Shelf};
+use mix_model::{Action, Answer, Entry, Message, Reply};
 use mix_script::line_length;
 use std::alloc::Global;
 use std::marker::Model;
@@ -25,6 +25,8 @@ pub struct Engine {
     setup: Setup,
     mixing: Mixing,
     journal: Vec<Entry>,
+    /// Where the texts of the journal stand.
+    shelf: Shelf,
     /// The bytes of the journal's text.
     bytes: u64,
     full: Option<Full>,
@@ -75,6 +77,7 @@ impl Engine {
                 setup,
                 mixing,
                 journal: Vec::new(alloc),
+                shelf: Shelf::new(alloc),
                 bytes: 0,
                 full: None,
             })),
@@ -111,6 +114,7 @@ impl Engine {
             Ok(None) => Ok(None),
             Ok(Some(spoken)) => {
                 self.bytes += line;
+                let action = shelved(&mut self.shelf, action);
                 self.journal.push_reserved(Entry { from, action });
                 Ok(Some(self.answer(spoken)))
             }
@@ -210,6 +214,29 @@ impl Engine {
             Own::Told { conn } => self.mixing.due(conn),
             _ => false,
         }
+    }
+}
+
+/// The same action, with its text on the shelf.
+fn shelved(shelf: &mut Shelf, action: Action) -> Action
+    ensures value { result ≡ action }
+{
+    match action {
+        Action::Hear { conn, message } => Action::Hear {
+            conn,
+            message: message_on(shelf, message),
+        },
+        other => other,
+    }
+}
+
+/// The same message, with its text on the shelf.
+fn message_on(shelf: &mut Shelf, message: Message) -> Message
+    ensures value { result ≡ message }
+{
+    match message {
+        Message::Text(text) => Message::Text(shelf.keep(text)),
+        Message::Binary(bytes) => Message::Binary(bytes),
     }
 }
 

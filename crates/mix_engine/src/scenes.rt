@@ -1,6 +1,8 @@
 //! The requests on scenes.
 ghost use Rattle.std.specs.Prelude.{◌≡◌, ℕ, ◌<◌, ◌≤◌, ◌+◌, ◌^◌, [], IfOk, OnOk, OnErr};
-ghost use Rattle.mix_json.specs.Trees.{obj_of, put_fields};
+ghost use Rattle.mix_base.specs.Uuids.{uuid_of};
+ghost use Rattle.mix_base.specs.declared.json.Json as json;
+ghost use Rattle.mix_json.specs.Trees.{obj_of, put_fields, with_field};
 ghost use Rattle.mix_graph.specs.Refused.{RefusedBy};
 ghost use Rattle.mix_model.specs.Causes.{scene_cause};
 ghost use Rattle.mix_model.specs.Edits.{scene_created};
@@ -66,10 +68,18 @@ fn with_program(
     ensures value { IfOk result
         (λ all. all ≡ put_fields (program_fields graph.now.present program) fields) }
 {
-    let uuid = uuid_text(alloc, program)?;
-    fields
-        .text("currentProgramSceneName", name_at(graph, program))?
-        .text("currentProgramSceneUuid", uuid.as_str())
+    let fields = fields.text("currentProgramSceneName", name_at(graph, program))?;
+    with_uuid(alloc, fields, "currentProgramSceneUuid", program)
+}
+
+/// With the UUID of a source.
+fn with_uuid(alloc: Global, fields: Fields, key: &str, serial: Serial) -> Result<Fields, NoMemory>
+    requires serial { serial < 2 ^ 48 }
+    ensures value { IfOk result
+        (λ all. all ≡ with_field key.now (json.Text (uuid_of serial)) fields) }
+{
+    let text = uuid_text(alloc, serial)?;
+    fields.text(key, text.as_str())
 }
 
 /// With all scenes.

@@ -1,5 +1,6 @@
 use Rattle.std.proofs.Common.{sym, ap, ◌∙◌, subst, ◌++◌, ◌∷◌, []}
 use Rattle.mix_engine.specs.contracts.engine.Engine.{the_view}
+use Rattle.mix_model.specs.declared.action.Action.{Action}
 use Rattle.mix_engine.specs.Answers.{Agrees, answer_to}
 use Rattle.mix_engine.specs.Engines.{EngineModel, has_room}
 use Rattle.mix_engine.proofs.EngineLemmas.{numbers_left, engine_longer, answer_agrees}
@@ -28,6 +29,8 @@ invariant_of-self-in-Ok-Some c = engine_longer (the_view c.self.inside) _ _ _
     ∙ sym (c.has_room.ensures.value c.args.action c.line_length-line.ensures.value)
     ∙ c.if-not-has_room.false)
     c.line_length-line.ensures.value (c.push_reserved.ensures.items
+    ∙ ap (λ (a : Action). c.reserve.new.self.items ++ record { from = c.args.from; action = a } ∷ [])
+    c.shelved-action.ensures.value
     ∙ ap (λ l. l ++ record { from = c.args.from; action = c.args.action } ∷ [])
     c.in-Ok.ensures.items)
 
@@ -39,6 +42,8 @@ returns-in-Ok-Some-clause-reply c =
     (record { from = c.args.from; action = c.args.action }) c.in-Ok-Some.spoken _
     c.self.invariant.0 (rw c.in-Ok-Some.field-0-is at c.in-Ok-Some.ensures.reply)
     c.in-Ok-Some.ensures.listeners (c.push_reserved.ensures.items
+    ∙ ap (λ (a : Action). c.reserve.new.self.items ++ record { from = c.args.from; action = a } ∷ [])
+    c.shelved-action.ensures.value
     ∙ ap (λ l. l ++ record { from = c.args.from; action = c.args.action } ∷ [])
     c.in-Ok.ensures.items)
     c.answer.ensures.reply c.answer.ensures.stopping c.answer.ensures.dying)
