@@ -2,7 +2,6 @@
 mod cases;
 
 use crate::{Heard, Secret, Session, answer_for};
-use cases::CASES;
 use mix_base::{Bytes, Bytes32, NoMemory, Text};
 use mix_model::{Body, Login, Message, Said};
 use std::alloc::{AllocError, Global};
@@ -58,17 +57,45 @@ fn identified(alloc: Global, mask: u32) -> Result<Session, NoMemory> {
     Ok(session)
 }
 
+/// A session in each of the three situations of the cases.
+#[derive(Drop)]
+struct Three {
+    fresh: Session,
+    locked: Session,
+    known: Session,
+}
+
+/// Each case is answered as it says.
+fn expect_all(
+    rt: &impl Abort,
+    alloc: Global,
+    three: &Three,
+    cases: &[(u16, u16, u16, &str)],
+) -> Result<(), NoMemory> {
+    for (of_fresh, of_locked, of_known, message) in cases {
+        expect(rt, alloc, &three.fresh, *of_fresh, message)?;
+        expect(rt, alloc, &three.locked, *of_locked, message)?;
+        expect(rt, alloc, &three.known, *of_known, message)?;
+    }
+    Ok(())
+}
+
 #[test]
 fn messages_are_heard_as_another_program_hears_them(rt: HostRuntime) -> Result<(), Fail> {
     let alloc = rt.alloc();
     let (fresh, _hello) = Session::start(alloc, None, &ZEROS)?;
     let (locked, _hello) = locked(alloc)?;
     let known = identified(alloc, 0)?;
-    for (of_fresh, of_locked, of_known, message) in &CASES {
-        expect(&rt, alloc, &fresh, *of_fresh, message)?;
-        expect(&rt, alloc, &locked, *of_locked, message)?;
-        expect(&rt, alloc, &known, *of_known, message)?;
-    }
+    let three = Three {
+        fresh,
+        locked,
+        known,
+    };
+    expect_all(&rt, alloc, &three, &cases::shapes::CASES)?;
+    expect_all(&rt, alloc, &three, &cases::identify::CASES)?;
+    expect_all(&rt, alloc, &three, &cases::reidentify::CASES)?;
+    expect_all(&rt, alloc, &three, &cases::requests::CASES)?;
+    expect_all(&rt, alloc, &three, &cases::batches::CASES)?;
     Ok(())
 }
 

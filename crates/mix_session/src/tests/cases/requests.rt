@@ -1,0 +1,66 @@
+//! Requests.
+
+pub static CASES: [(u16, u16, u16, &str); 12] = [
+    (4007, 4007, 4003, "{\"op\":6,\"d\":{}}"),
+    (
+        4007,
+        4007,
+        4003,
+        "{\"op\":6,\"d\":{\"requestType\":\"GetSceneList\"}}",
+    ),
+    (4007, 4007, 4003, "{\"op\":6,\"d\":{\"requestId\":\"a\"}}"),
+    (
+        4007,
+        4007,
+        4004,
+        "{\"op\":6,\"d\":{\"requestId\":7,\"requestType\":\"GetSceneList\"}}",
+    ),
+    (
+        4007,
+        4007,
+        4004,
+        "{\"op\":6,\"d\":{\"requestId\":\"a\",\"requestType\":7}}",
+    ),
+    (
+        4007,
+        4007,
+        4003,
+        "{\"op\":6,\"d\":{\"requestId\":null,\"requestType\":7}}",
+    ),
+    (
+        4007,
+        4007,
+        7,
+        "{\"op\":6,\"d\":{\"requestId\":\"\",\"requestType\":\"\"}}",
+    ),
+    (
+        4007,
+        4007,
+        7,
+        "{\"op\":6,\"d\":{\"requestId\":\"a\",\"requestType\":\"getscenelist\"}}",
+    ),
+    (
+        4007,
+        4007,
+        7,
+        "{\"op\":6,\"d\":{\"requestId\":\"a\",\"requestType\":\"GetStats\"}}",
+    ),
+    (
+        4007,
+        4007,
+        7,
+        "{\"op\":6,\"d\":{\"requestId\":\"a\",\"requestType\":\"Nope\",\"requestData\":1.5}}",
+    ),
+    (
+        4007,
+        4007,
+        7,
+        "{\"op\":6,\"d\":{\"requestId\":\"\\u00e9\\n\\\"\",\"requestType\":\"GetStats\"}}",
+    ),
+    (
+        4007,
+        4007,
+        7,
+        "{\"op\":6,\"d\":{\"requestId\":\"a\",\"requestType\":\"GetStats\"},\"pad\":\"x\"}",
+    ),
+];
