@@ -1,4 +1,4 @@
-//! A text in UTF-8, which many may hold at once without a copy.
+//! A text in UTF-8: a short one stands in its value, a longer one in bytes that many hold at once.
 ghost use Rattle.std.specs.Prelude.{◌≡◌, ◌↔◌, IfOk, IsUtf8, string_bytes};
 
 use crate::NoMemory;
