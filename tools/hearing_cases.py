@@ -1,14 +1,26 @@
-"""Writes the test table of hearing from cases that another program made.
+"""Writes the test tables of hearing from cases that another program made, one for each op.
 
-usage: hearing_cases.py CASES.tsv TABLE.rt
+usage: hearing_cases.py CASES.tsv FOLDER
 
 A line of CASES.tsv has a situation (fresh, secret or identified), a message as it stands in a line
 of a script, and what is said to it there. Long messages are left out: the tests build such ones.
+`rt fmt` brings the tables into form.
 """
 import json
+import os
+import re
 import sys
 
 LONGEST = 200
+
+# the file of each op that a client says, and of everything else
+TABLES = {
+    "1": ("identify.rt", "Identify, and what is said of its fields."),
+    "3": ("reidentify.rt", "Reidentify."),
+    "6": ("requests.rt", "Requests."),
+    "8": ("batches.rt", "Batches of requests."),
+    None: ("shapes.rt", "Messages that are no object, or whose op is none that a client says."),
+}
 
 
 def unescaped(text):
@@ -36,6 +48,22 @@ def answered(said):
     return str(json.loads(unescaped(said[4:]))["op"])
 
 
+def op_of(message):
+    """The first op that stands in a message, or None where it is none that a client says."""
+    found = re.search(r'"op":([^,}]*)', message)
+    return found.group(1) if found and found.group(1) in TABLES else None
+
+
+def write_table(path, about, cases, messages):
+    with open(path, "w", encoding="utf-8") as out:
+        out.write("//! %s\n\n" % about)
+        out.write("pub static CASES: [(u16, u16, u16, &str); %d] = [\n" % len(messages))
+        for message in messages:
+            said = [answered(cases[message][name]) for name in ("fresh", "secret", "identified")]
+            out.write("    (%s, %s),\n" % (", ".join(said), literal(unescaped(message))))
+        out.write("];\n")
+
+
 def main():
     cases = {}
     with open(sys.argv[1], encoding="utf-8", newline="\n") as file:
@@ -43,15 +71,9 @@ def main():
             situation, message, said = line.rstrip("\n").split("\t")
             cases.setdefault(message, {})[situation] = said
     short = [message for message in cases if len(message) <= LONGEST]
-    with open(sys.argv[2], "w", encoding="utf-8") as out:
-        out.write("//! Messages, and what another program answers them in each of three situations.\n\n")
-        out.write("/// What a connection is answered that is fresh, one that has to know a secret, and one that\n")
-        out.write("/// is identified: a code, or the op of the answer; and then the message.\n")
-        out.write("pub static CASES: [(u16, u16, u16, &str); %d] = [\n" % len(short))
-        for message in short:
-            said = [answered(cases[message][name]) for name in ("fresh", "secret", "identified")]
-            out.write("    (%s, %s),\n" % (", ".join(said), literal(unescaped(message))))
-        out.write("];\n")
+    for op, (name, about) in TABLES.items():
+        messages = [message for message in short if op_of(unescaped(message)) == op]
+        write_table(os.path.join(sys.argv[2], name), about, cases, messages)
 
 
 main()
