@@ -7,8 +7,8 @@ PROGRAM is crates/lenkhov/out/lenkhov unless it is named; `rt run` in crates/len
 script asks by turns for the list of scenes and for a scene. Only a few names are asked for, so a few
 scenes are made, and every later request for one is answered with 601. Prints for each script the
 lines in a second of processor time, the most memory, and at the end the ratio of the two times, which
-is 2 where the time for a request doesn't depend on how many came before. Ends with 1 where an answer
-is missing.
+is 2 where the time for a request doesn't depend on how many came before. A time is the least of three
+runs, since whatever else the machine does only adds to it. Ends with 1 where an answer is missing.
 """
 
 import pathlib
@@ -19,6 +19,7 @@ from measuring import FIRST, program_named, replay
 
 SIZES = (100_000, 200_000)
 NAMES = 8
+RUNS = 3
 
 
 def request(number):
@@ -64,7 +65,8 @@ def main():
     times = []
     with tempfile.TemporaryDirectory() as folder:
         for requests in SIZES:
-            seconds, memory = measure(program, pathlib.Path(folder), requests)
+            runs = [measure(program, pathlib.Path(folder), requests) for _ in range(RUNS)]
+            seconds, memory = min(run[0] for run in runs), max(run[1] for run in runs)
             times.append(seconds)
             lines = (requests + 2) / seconds
             print(f"{requests} requests: {seconds:.2f} s, {lines:,.0f} lines a second,"

@@ -19,12 +19,15 @@ def program_named(words):
 
 
 def replay(program, collection, script, record, look):
-    """Replays a script, and hands each line of the output to `look`. The status, the seconds of processor
-    time and the most bytes of memory."""
+    """Replays a script into a file beside it, and then hands each line of the output to `look`. The
+    status, the seconds of processor time and the most bytes of memory."""
+    output = script.with_name("output")
     words = [program, "replay", collection, script, record]
-    run = subprocess.Popen(words, stdout=subprocess.PIPE)
-    for line in run.stdout:
-        look(line)
-    _, ended, used = os.wait4(run.pid, 0)
+    with open(output, "wb") as file:
+        run = subprocess.Popen(words, stdout=file)
+        _, ended, used = os.wait4(run.pid, 0)
     run.returncode = os.waitstatus_to_exitcode(ended)
+    with open(output, "rb") as file:
+        for line in file:
+            look(line)
     return run.returncode, used.ru_utime + used.ru_stime, used.ru_maxrss * 1024

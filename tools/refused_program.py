@@ -6,8 +6,8 @@
 PROGRAM is crates/lenkhov/out/lenkhov unless it is named; `rt run` in crates/lenkhov builds it. Builds
 refuse_alloc.c with gcc, runs the program once for each N with the Nth allocation refused, until none
 is refused any more, and looks at each run: status 8 and a front of the right output, or status 0 and
-the whole of it; the record stays empty. Prints how many runs ended with each status, and ends with 1
-at anything else.
+the whole of it, as where a shelf goes on without a block; the record stays empty. Prints how many
+runs ended with each status, and ends with 1 at anything else.
 """
 
 import collections
