@@ -2,7 +2,7 @@
 use std::marker::Model;
 
 /// Thirty-two bytes: a salt or a challenge of a login. Contracts see the list of them.
-#[derive(Clone, Copy, Debug, PartialEq, Eq)]
+#[derive(Clone, Copy)]
 pub struct Bytes32(pub [u8; 32]);
 
 impl Model for Bytes32 {

@@ -12,8 +12,6 @@ mod numbers;
 mod rate;
 mod shared;
 mod shelf;
-#[cfg(test)]
-mod tests;
 mod text;
 mod uuids;
 

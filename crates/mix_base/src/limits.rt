@@ -3,7 +3,7 @@ ghost use Rattle.std.specs.Prelude.{◌≡◌};
 ghost use Rattle.mix_base.specs.Limits.{standard};
 
 /// How much a mixer holds at most. Rows and items count those that die, too.
-#[derive(Clone, Copy, Debug, PartialEq, Eq)]
+#[derive(Clone, Copy)]
 pub struct Limits {
     /// Sources: scenes, groups and inputs.
     pub rows: u32,

@@ -5,7 +5,7 @@ use arrayvec::ArrayString;
 use std::marker::Model;
 
 /// Why bytes are no name; the causes are looked for in this order.
-#[derive(Clone, Copy, Debug, PartialEq, Eq)]
+#[derive(Clone, Copy)]
 pub enum NameFault {
     /// There is no byte.
     Empty,

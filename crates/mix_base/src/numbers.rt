@@ -2,7 +2,7 @@
 use std::marker::Model;
 
 /// The number of a source, given from 1 in order of creation and never used again.
-#[derive(Clone, Copy, Debug, PartialEq, Eq, PartialOrd, Ord)]
+#[derive(Clone, Copy, PartialEq, Eq)]
 pub struct Serial(pub u64);
 
 impl Model for Serial {
@@ -16,7 +16,7 @@ impl Model for Serial {
 }
 
 /// The number of an item in its scene or group, given there from 1 and never used again there.
-#[derive(Clone, Copy, Debug, PartialEq, Eq, PartialOrd, Ord)]
+#[derive(Clone, Copy, PartialEq, Eq)]
 pub struct ItemId(pub u32);
 
 impl Model for ItemId {
@@ -30,7 +30,7 @@ impl Model for ItemId {
 }
 
 /// The number of a connection, given from 1.
-#[derive(Clone, Copy, Debug, PartialEq, Eq, PartialOrd, Ord)]
+#[derive(Clone, Copy, PartialEq, Eq)]
 pub struct ConnId(pub u32);
 
 impl Model for ConnId {
@@ -44,7 +44,7 @@ impl Model for ConnId {
 }
 
 /// The place of a value in its container.
-#[derive(Clone, Copy, Debug, PartialEq, Eq, PartialOrd, Ord)]
+#[derive(Clone, Copy)]
 pub struct Key(pub usize);
 
 impl Model for Key {
@@ -58,7 +58,7 @@ impl Model for Key {
 }
 
 /// Who made an entry of a history: a pass, and the place among that pass's own entries, from 0.
-#[derive(Clone, Copy, Debug, PartialEq, Eq)]
+#[derive(Clone, Copy)]
 pub struct PassNo {
     pub pass: u32,
     pub number: u64,

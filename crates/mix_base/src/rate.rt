@@ -3,7 +3,7 @@ ghost use Rattle.std.specs.Prelude.{◌≡◌, ◌≤◌, ◌*◌, ◌+◌, ◌<
 ghost use Rattle.mix_base.specs.Rates.{is_rate, frames_of};
 
 /// Frames in a second, as the fraction `num / den`.
-#[derive(Clone, Copy, Debug, PartialEq, Eq)]
+#[derive(Clone, Copy)]
 pub struct Rate {
     pub num: u32,
     pub den: u32,

@@ -2,7 +2,7 @@
 use mix_base::{Bytes32, ConnId};
 
 /// What an action does to the list of open connections, telling aside.
-#[derive(Clone, Copy, Debug, PartialEq, Eq)]
+#[derive(Clone, Copy)]
 pub enum Attendance {
     Same,
     /// A connection opens; its login has this challenge.

@@ -1,7 +1,7 @@
 //! Why an engine refuses an action.
 
 /// Why an engine refuses an action.
-#[derive(Clone, Copy, Debug, PartialEq, Eq)]
+#[derive(Clone, Copy)]
 pub enum ActFault {
     /// There was no memory for it.
     NoMemory,
@@ -11,7 +11,7 @@ pub enum ActFault {
 
 /// The first action that found no room in the history: the actions and the bytes that the history
 /// had, and the bytes of the action's line.
-#[derive(Clone, Copy, Debug, PartialEq, Eq)]
+#[derive(Clone, Copy)]
 pub struct Full {
     pub turns: u64,
     pub bytes: u64,

@@ -6,7 +6,7 @@ use crate::Mixing;
 use mix_base::Rate;
 
 /// The head of a recording's record: what its pictures and its sound are.
-#[derive(Clone, Copy, Debug, PartialEq, Eq)]
+#[derive(Clone, Copy)]
 pub struct Head {
     /// Whether pictures are recorded as I420, else as RGBA.
     pub i420: bool,

@@ -29,8 +29,6 @@ mod shape;
 mod sought;
 mod spoken;
 mod still;
-#[cfg(test)]
-mod tests;
 
 pub use attendance::Attendance;
 pub use audience::Audience;

@@ -3,7 +3,7 @@ use mix_base::{ConnId, Serial};
 
 /// What an action is answered, without the texts that are told. For a frame and a block it stands
 /// for the picture and the sound of the state in which the action is found.
-#[derive(Clone, Copy, Debug, PartialEq, Eq)]
+#[derive(Clone, Copy)]
 pub enum Own {
     /// No more connections may be open.
     Full,

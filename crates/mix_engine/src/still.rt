@@ -3,7 +3,7 @@ use mix_base::{Rate, Serial};
 
 /// The parts of the studio beside its sources. So far no action changes anything but which scene the
 /// program rests on.
-#[derive(Clone, Copy, Debug, PartialEq, Eq)]
+#[derive(Clone, Copy)]
 pub struct Still {
     /// The scene on which the program rests.
     pub program: Serial,

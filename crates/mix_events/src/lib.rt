@@ -10,8 +10,6 @@ mod others;
 mod said;
 mod scenes;
 mod status;
-#[cfg(test)]
-mod tests;
 
 pub use event::intent;
 pub use said::said_text;

@@ -7,8 +7,6 @@ mod kept;
 mod lane;
 mod lanes;
 mod store;
-#[cfg(test)]
-mod tests;
 mod waiting;
 
 pub use fanout::Fanout;

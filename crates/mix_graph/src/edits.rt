@@ -18,7 +18,7 @@ use mix_base::{ItemId, Name, Serial};
 use mix_model::{Blend, Place, Settings, Sound};
 
 /// Why a source isn't renamed; the causes are looked for in this order.
-#[derive(Clone, Copy, Debug, PartialEq, Eq)]
+#[derive(Clone, Copy)]
 pub enum Rename {
     /// The serial isn't that of a named row.
     Missing,

@@ -21,7 +21,7 @@ use std::alloc::Global;
 use std::marker::Model;
 
 /// A serial isn't that of a named row, or a number isn't there.
-#[derive(Clone, Copy, Debug, PartialEq, Eq)]
+#[derive(Clone, Copy)]
 pub struct Missing;
 
 /// The sources of a mixer. An action begins with `begin_changes`; each call of it leaves its edit,

@@ -27,8 +27,6 @@ mod shape;
 mod shown;
 mod sources;
 mod tally;
-#[cfg(test)]
-mod tests;
 mod told;
 mod tree;
 

@@ -3,8 +3,6 @@
 
 mod fields;
 mod reading;
-#[cfg(test)]
-mod tests;
 mod tree;
 mod writing;
 

@@ -9,7 +9,7 @@ use serde_json::{Map, Number, Value};
 use std::alloc::Global;
 
 /// Why bytes gave no value.
-#[derive(Clone, Copy, Debug, PartialEq, Eq)]
+#[derive(Clone, Copy)]
 pub enum JsonFault {
     /// They are no JSON text in UTF-8: the doing of who gave them.
     NotJson,

@@ -2,7 +2,7 @@
 use mix_base::Serial;
 
 /// What an action changed for a source.
-#[derive(Clone, Copy, Debug, PartialEq, Eq)]
+#[derive(Clone, Copy)]
 pub enum Change {
     /// It became active, or it no longer is.
     Active { serial: Serial, now: bool },

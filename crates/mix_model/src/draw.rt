@@ -7,7 +7,7 @@ use mix_base::{ListOf, NoMemory};
 use std::alloc::Global;
 
 /// One place that a draw goes through, and the size of what stands there.
-#[derive(Clone, Copy, Debug, PartialEq, Eq)]
+#[derive(Clone, Copy)]
 pub struct Step {
     pub place: Place,
     pub width: u32,

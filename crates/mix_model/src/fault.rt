@@ -1,7 +1,7 @@
 //! Why a call that creates or adds is refused.
 
 /// Why a call that creates or adds is refused; the causes are looked for in this order.
-#[derive(Clone, Copy, Debug, PartialEq, Eq)]
+#[derive(Clone, Copy)]
 pub enum GraphFault {
     /// A source or an item that was given isn't there.
     NotFound,

@@ -3,7 +3,7 @@ use crate::{Blend, Place};
 use mix_base::{ItemId, Serial};
 
 /// An item of a scene or group. It shows its child.
-#[derive(Clone, Copy, Debug, PartialEq, Eq)]
+#[derive(Clone, Copy)]
 pub struct Item {
     pub id: ItemId,
     pub child: Serial,
@@ -14,7 +14,7 @@ pub struct Item {
 }
 
 /// What a new item is asked to be.
-#[derive(Clone, Copy, Debug, PartialEq, Eq)]
+#[derive(Clone, Copy)]
 pub struct ItemSpec {
     pub enabled: bool,
     pub locked: bool,

@@ -1,7 +1,7 @@
 //! What a source is, and how an item's pixels meet those below.
 
 /// What a source is: a scene, a group, or one of the kinds of input.
-#[derive(Clone, Copy, Debug, PartialEq, Eq)]
+#[derive(Clone, Copy, PartialEq, Eq)]
 pub enum Kind {
     Scene,
     Group,
@@ -18,7 +18,7 @@ pub enum Kind {
 }
 
 /// How the pixels of an item meet those below.
-#[derive(Clone, Copy, Debug, PartialEq, Eq)]
+#[derive(Clone, Copy, PartialEq, Eq)]
 pub enum Blend {
     Normal,
     Additive,

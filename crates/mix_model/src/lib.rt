@@ -21,8 +21,6 @@ mod reply;
 mod row;
 mod said;
 mod settings;
-#[cfg(test)]
-mod tests;
 mod tree;
 mod voice;
 mod words;

@@ -7,7 +7,7 @@ use mix_base::{ConnId, NoMemory, Serial};
 use std::alloc::Global;
 
 /// A hold or a watch with the connection that made it.
-#[derive(Clone, Copy, Debug, PartialEq, Eq)]
+#[derive(Clone, Copy)]
 pub struct Note {
     pub id: u64,
     pub conn: ConnId,

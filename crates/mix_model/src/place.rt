@@ -1,7 +1,7 @@
 //! Where an item stands in its picture, and how an input sounds.
 
 /// Where an item stands in the picture of its scene or group.
-#[derive(Clone, Copy, Debug, PartialEq, Eq)]
+#[derive(Clone, Copy)]
 pub struct Place {
     /// Pixels to the right, −90000 to 90000.
     pub x: i32,
@@ -26,7 +26,7 @@ pub struct Place {
 }
 
 /// How an input sounds.
-#[derive(Clone, Copy, Debug, PartialEq, Eq)]
+#[derive(Clone, Copy)]
 pub struct Sound {
     /// Thousandths, 0 to 20000.
     pub volume: u32,

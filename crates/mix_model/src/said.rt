@@ -3,7 +3,7 @@ use crate::{Done, DoneList, Event};
 use mix_base::{Bytes32, Text};
 
 /// What a connection needs to log in.
-#[derive(Clone, Copy, Debug, PartialEq, Eq)]
+#[derive(Clone, Copy)]
 pub struct Login {
     pub salt: Bytes32,
     pub challenge: Bytes32,

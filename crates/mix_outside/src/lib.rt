@@ -25,5 +25,3 @@ pub use read_ahead::ReadAhead;
 pub use sink::{Put, Sink};
 pub use source::{Source, Take};
 
-#[cfg(test)]
-mod tests;

@@ -7,7 +7,7 @@ use crate::read_ahead::Filled;
 use crate::{ReadAhead, Source};
 
 /// What a reader of lines met.
-#[derive(Clone, Copy, Debug, PartialEq, Eq)]
+#[derive(Clone, Copy)]
 pub enum Met {
     /// A line that has a line feed.
     Whole,
@@ -22,7 +22,7 @@ pub enum Met {
 }
 
 /// What came of moving bytes onto a line.
-#[derive(Clone, Copy, Debug, PartialEq, Eq)]
+#[derive(Clone, Copy, PartialEq, Eq)]
 enum Run {
     /// The line has come to its line feed.
     Whole,

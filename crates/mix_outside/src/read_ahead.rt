@@ -12,7 +12,7 @@ use std::marker::Model;
 const AHEAD: usize = 65_536;
 
 /// What came of a read.
-#[derive(Clone, Copy, Debug, PartialEq, Eq)]
+#[derive(Clone, Copy, PartialEq, Eq)]
 pub(crate) enum Filled {
     /// Something stands ahead.
     More,

@@ -4,7 +4,7 @@ ghost use Rattle.mix_outside.specs.Faults.{Rose};
 ghost use Rattle.mix_outside.specs.Bytes.{IsWithin, Takes};
 
 /// What a read answers.
-#[derive(Clone, Copy, Debug, PartialEq, Eq)]
+#[derive(Clone, Copy)]
 pub enum Take {
     /// So many bytes came, at the front of the slice that was given: one at least.
     Bytes(usize),

@@ -4,9 +4,5 @@
 mod listing;
 mod plans;
 mod rows;
-#[cfg(test)]
-mod small;
-#[cfg(test)]
-mod tests;
 
 pub use plans::plan;

@@ -11,8 +11,6 @@ mod login;
 mod reading;
 mod registry;
 mod sources;
-#[cfg(test)]
-mod tests;
 
 pub use reading::read_collection;
 
@@ -29,7 +27,7 @@ pub enum Opened {
 }
 
 /// Why reading stopped.
-#[derive(Clone, Copy, Debug, PartialEq, Eq)]
+#[derive(Clone, Copy)]
 pub enum Fault {
     /// The source failed.
     ReadFault,

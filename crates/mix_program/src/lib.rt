@@ -3,8 +3,6 @@
 
 mod collection;
 mod running;
-#[cfg(test)]
-mod tests;
 mod top;
 
 pub use top::{Status, run_offline};

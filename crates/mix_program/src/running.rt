@@ -8,7 +8,7 @@ pub use last_line::refuse_collection;
 pub use script::replay;
 
 /// How a run that wrote all its lines ended.
-#[derive(Clone, Copy, Debug, PartialEq, Eq)]
+#[derive(Clone, Copy)]
 pub enum Finished {
     /// The script was done to its end.
     Done,
@@ -19,7 +19,7 @@ pub enum Finished {
 }
 
 /// How a run ended.
-#[derive(Clone, Copy, Debug, PartialEq, Eq)]
+#[derive(Clone, Copy)]
 pub enum Ended {
     /// All lines were written.
     Whole(Finished),
@@ -32,7 +32,7 @@ pub enum Ended {
 }
 
 /// Whether a piece was written.
-#[derive(Clone, Copy, Debug, PartialEq, Eq)]
+#[derive(Clone, Copy)]
 pub enum Wrote {
     /// All of it was.
     All,

@@ -18,7 +18,7 @@ use mix_outside::{Sink, Source};
 use std::alloc::Global;
 
 /// The status that the program ends with.
-#[derive(Clone, Copy, Debug, PartialEq, Eq)]
+#[derive(Clone, Copy)]
 pub struct Status(pub u8);
 
 /// Whether the words ask for a replay.

@@ -9,8 +9,6 @@ mod mode;
 mod painting;
 mod pixels;
 mod span;
-#[cfg(test)]
-mod tests;
 mod way;
 
 pub use mixing::mix_pictures;

@@ -3,7 +3,7 @@ use mix_base::NoMemory;
 use std::alloc::{AllocError, AllocFailed};
 
 /// Why a line stands for no action.
-#[derive(Clone, Copy, Debug, PartialEq, Eq)]
+#[derive(Clone, Copy)]
 pub enum BadLine {
     /// The line isn't in the table of lines: the doing of who wrote it.
     Form,

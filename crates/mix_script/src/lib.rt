@@ -8,8 +8,6 @@ mod laws;
 mod length;
 mod number;
 mod read;
-#[cfg(test)]
-mod tests;
 mod write;
 
 pub use bad_line::BadLine;

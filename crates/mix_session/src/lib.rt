@@ -11,8 +11,6 @@ mod op;
 mod request;
 mod secret;
 mod session;
-#[cfg(test)]
-mod tests;
 
 pub use heard::Heard;
 pub use login::answer_for;

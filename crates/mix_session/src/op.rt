@@ -5,7 +5,7 @@ ghost use Rattle.mix_session.specs.Op.{in_turn, op_of};
 use crate::close::{ALREADY_IDENTIFIED, NOT_IDENTIFIED};
 
 /// The kinds of messages that a client sends.
-#[derive(Clone, Copy, Debug, PartialEq, Eq)]
+#[derive(Clone, Copy)]
 pub enum Op {
     /// Names the version and the events, and logs in.
     Identify,

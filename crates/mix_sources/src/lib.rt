@@ -10,8 +10,6 @@ pub mod laws;
 mod naming;
 mod raster;
 mod shown;
-#[cfg(test)]
-mod tests;
 mod written;
 
 pub use checking::check_settings;

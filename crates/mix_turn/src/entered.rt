@@ -3,7 +3,7 @@ use mix_base::PassNo;
 use std::collections::LinkedList;
 
 /// An entry, with the pass that made it and its number among that pass's own entries.
-#[derive(Debug, Drop)]
+#[derive(Drop)]
 pub struct Entered<E> {
     pub from: PassNo,
     pub entry: E,

@@ -1,7 +1,7 @@
 //! Why a try or a split was refused.
 
 /// Another's turn was on, or the turnstile has served all that it can.
-#[derive(Clone, Copy, Debug, PartialEq, Eq)]
+#[derive(Clone, Copy)]
 pub struct Busy {
     /// The ticket that was found: the turns that were begun.
     pub ticket: u64,
@@ -10,7 +10,7 @@ pub struct Busy {
 }
 
 /// Why a pass was not split.
-#[derive(Clone, Copy, Debug, PartialEq, Eq)]
+#[derive(Clone, Copy)]
 pub enum SplitFault {
     /// Another took the number that was looked at, or there are no more numbers.
     Crowded { looked: u64, found: u64 },

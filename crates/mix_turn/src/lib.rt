@@ -9,8 +9,6 @@ mod pass;
 mod plays;
 mod roll;
 mod start;
-#[cfg(test)]
-mod tests;
 mod turn;
 mod turned;
 mod turnstile;

@@ -1,7 +1,7 @@
 //! What a turn answers.
 
 /// Why a turn was missed. Its entry is then in no history.
-#[derive(Clone, Copy, Debug, PartialEq, Eq)]
+#[derive(Clone, Copy)]
 pub enum Miss {
     /// The history is full: it has this many turns, and this many bytes.
     Full { turns: u64, bytes: u64 },
@@ -10,7 +10,7 @@ pub enum Miss {
 }
 
 /// The answer of a turn that was done, or why it was missed.
-#[derive(Debug, PartialEq, Eq, Drop)]
+#[derive(Drop)]
 pub enum Turn<A> {
     Done(A),
     Missed(Miss),

@@ -14,7 +14,7 @@ use std::alloc::Global;
 const MOST_BYTES: u64 = 268_435_456;
 
 /// What stood first of what was left.
-#[derive(Clone, Copy, Debug, PartialEq, Eq)]
+#[derive(Clone, Copy)]
 pub enum Next {
     /// A line with a line feed.
     Line,

@@ -15,7 +15,7 @@ use mix_outside::Source;
 use std::alloc::Global;
 
 /// What the four lines at the head say.
-#[derive(Clone, Copy, Debug, PartialEq, Eq)]
+#[derive(Clone, Copy)]
 pub struct Head {
     /// Width and height in pixels.
     pub canvas: (u32, u32),
