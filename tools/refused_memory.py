@@ -3,7 +3,7 @@
 
     tools/refused_memory.py [FIRST [LAST]]
 
-Runs the test `first_conversation` of mix_rows once for each N from FIRST (1 unless it is given), with
+Runs the test `first_conversation` of mix_test_runs once for each N from FIRST (1 unless it is given), with
 the Nth allocation refused, until none is refused any more, or up to LAST. Prints a line for each N:
 
     8       the run ended with status 8
@@ -19,9 +19,9 @@ import re
 import subprocess
 import sys
 
-CRATE = pathlib.Path(__file__).resolve().parent.parent / "crates/mix_rows"
+CRATE = pathlib.Path(__file__).resolve().parent.parent / "crates/mix_test_runs"
 TEST = "first_conversation"
-ENDED = re.compile(r"left: (\d+)\n\s*right: 0\n")
+ENDED = re.compile(r"the conversation: it ended with (\d+)")
 
 
 def outcome(number):
@@ -30,11 +30,11 @@ def outcome(number):
     said = run.stdout + run.stderr
     if "1 passed; 0 failed" in said:
         return "0"
-    if "error: NoMemory" in said:
+    if "error: AllocError" in said:
         return "test"
     ended = ENDED.search(said)
     if ended and "0 passed; 1 failed" in said:
-        return ended.group(1)
+        return "lines" if ended.group(1) == "0" else ended.group(1)
     sys.exit(f"{number}: no answer\n{said}")
 
 

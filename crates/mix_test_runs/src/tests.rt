@@ -1,0 +1,8 @@
+//! Whole runs over sources and sinks in memory.
+mod conversation;
+mod faults;
+mod history;
+mod long;
+mod running;
+mod waiting;
+mod words;

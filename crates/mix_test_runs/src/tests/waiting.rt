@@ -1,0 +1,88 @@
+//! Events that wait for a connection that doesn't come for them, and when it is cut.
+use crate::tests::conversation::COLLECTION;
+use crate::tests::running::{Given, expect, repeated, replay_of};
+use std::alloc::{AllocError, Global};
+use std::test::Fail;
+
+/// Two controllers come, and the second one wants events.
+static OPENS: &[u8] = br#"+
++
+<c1 {"op":1,"d":{"rpcVersion":1,"eventSubscriptions":0}}
+<c2 {"op":1,"d":{"rpcVersion":1,"eventSubscriptions":1}}
+"#;
+
+static OPENED: &[u8] = br#">c1 {"d":{"obsWebSocketVersion":"5.0.0","rpcVersion":1},"op":0}
+>c2 {"d":{"obsWebSocketVersion":"5.0.0","rpcVersion":1},"op":0}
+>c1 {"d":{"negotiatedRpcVersion":1},"op":2}
+>c2 {"d":{"negotiatedRpcVersion":1},"op":2}
+"#;
+
+/// The first one sends an event, and is answered.
+static SEND: &[u8] =
+    br#"<c1 {"op":6,"d":{"requestType":"BroadcastCustomEvent","requestId":"r","requestData":{"eventData":{}}}}
+"#;
+
+static SENT: &[u8] =
+    br#">c1 {"d":{"requestId":"r","requestStatus":{"code":100,"result":true},"requestType":"BroadcastCustomEvent"},"op":7}
+"#;
+
+/// What the second one is told of an event.
+static EVENT: &[u8] =
+    br#">c2 {"d":{"eventData":{},"eventIntent":1,"eventType":"CustomEvent"},"op":5}
+"#;
+
+/// How many events the first one sends, the lines that come then, and what is written for these
+/// behind the events.
+type Waiting = (usize, &'static [u8], &'static [u8]);
+
+/// With 4,096 waiting texts a connection is cut: it is told them, and closed. The one that sent them
+/// stays, and one text fewer leaves it open. Nothing more is queued for who is cut, and its next
+/// action does nothing else, be it a poll, a leave or a message.
+static WAITING: [Waiting; 4] = [
+    (4096, b"?c2\n?c1\n?c2\n", b"!c2 4011\n!c2 gone\n"),
+    (4095, b"?c2\n?c1\n?c2\n-c2\n", b"-c2\n"),
+    (4096, b"-c2\n-c2\n", b"!c2 4011\n!c2 gone\n"),
+    (
+        4096,
+        br#"<c2 {"op":3,"d":{"eventSubscriptions":0}}
+"#,
+        b"!c2 4011\n",
+    ),
+];
+
+/// The answers to the first one, what the second one is told, and then these lines.
+fn output_of(alloc: Global, events: usize, last: &[u8]) -> Result<Vec<u8>, AllocError> {
+    let answers = repeated(alloc, OPENED, SENT, events, b"")?;
+    let output = repeated(alloc, answers.as_slice(), EVENT, events, last);
+    drop(answers);
+    output
+}
+
+fn expect_waiting(alloc: Global, waiting: Waiting) -> Result<(), Fail> {
+    let (events, lines, last) = waiting;
+    let script = repeated(alloc, OPENS, SEND, events, lines)?;
+    let output = match output_of(alloc, events, last) {
+        Ok(output) => output,
+        Err(error) => {
+            drop(script);
+            return Err(Fail::from(error));
+        }
+    };
+    let given = Given {
+        piece: 65_536,
+        room: 4_000_000,
+        ..replay_of(COLLECTION, script.as_slice())
+    };
+    let result = expect(alloc, given, output.as_slice(), 0, "waiting texts");
+    drop(output);
+    drop(script);
+    result
+}
+
+#[test]
+fn four_thousand_waiting_texts(rt: HostRuntime) -> Result<(), Fail> {
+    for waiting in WAITING {
+        expect_waiting(rt.alloc(), waiting)?;
+    }
+    Ok(())
+}
