@@ -2,13 +2,12 @@
 ghost use Rattle.std.specs.Prelude.{◌≡◌, false};
 ghost use Rattle.mix_base.specs.Json.{obj_has_frac};
 
-use crate::texts::{copied, written};
 use mix_base::{Json, JsonObj, NoMemory, Text};
 use mix_json::{
-    Fields, JsonFault, in_range, need_bool, need_int, need_kept, need_obj, need_text, opt_bool,
-    opt_int, opt_obj, opt_text, read,
+    Fields, in_range, need_bool, need_int, need_kept, need_obj, need_text, opt_bool, opt_int,
+    opt_obj, opt_text,
 };
-use mix_tables::{Table, cell};
+use mix_tables::{Table, cell, copied, object, quoted, written};
 use std::alloc::Global;
 
 /// Cells: what is answered, a JSON value, `none` or a status; then the call, the key, and the object.
@@ -24,19 +23,6 @@ impl Table for FieldTable {
             }
             None => Ok(String::from_str(alloc, "no object")?),
         }
-    }
-}
-
-/// The object of a JSON text.
-pub fn object(alloc: Global, text: &str) -> Result<Option<JsonObj>, NoMemory> {
-    match read(alloc, text.as_bytes()) {
-        Ok(Json::Obj(obj)) => Ok(Some(obj)),
-        Ok(other) => {
-            drop(other);
-            Ok(None)
-        }
-        Err(JsonFault::NotJson) => Ok(None),
-        Err(JsonFault::NoMemory) => Err(NoMemory),
     }
 }
 
@@ -117,14 +103,6 @@ fn optional_text(alloc: Global, answer: Result<Option<&Text>, u16>) -> Result<St
         Ok(Some(found)) => quoted(alloc, found),
         Err(status) => refused(alloc, status),
     }
-}
-
-/// A text as JSON.
-pub fn quoted(alloc: Global, text: &Text) -> Result<String, NoMemory> {
-    let value = Json::Text(text.share()?);
-    let written = written(alloc, &value);
-    drop(value);
-    written
 }
 
 fn members(alloc: Global, answer: Result<&JsonObj, u16>) -> Result<String, NoMemory> {

@@ -1,9 +1,8 @@
 //! Lines of a script both ways.
-use crate::fields::quoted;
 use mix_base::{ConnId, NoMemory};
 use mix_model::{Action, Message};
 use mix_script::{BadLine, line_length, line_of, read_line};
-use mix_tables::{Table, cell, decoded};
+use mix_tables::{Table, cell, decoded, quoted};
 use std::alloc::Global;
 
 /// Cells: what the action of a line is, its number, and its text as JSON or its bytes in hexadecimal,

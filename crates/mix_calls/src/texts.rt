@@ -1,23 +1,8 @@
 //! JSON texts both ways.
-use mix_base::{Json, NoMemory, Text};
-use mix_json::{JsonFault, read, write};
-use mix_tables::{Table, cell, decoded, pieces};
+use mix_base::NoMemory;
+use mix_json::{JsonFault, read};
+use mix_tables::{Table, cell, decoded, pieces, written};
 use std::alloc::Global;
-
-/// What a JSON value is written as; a value with a fraction isn't written.
-pub fn written(alloc: Global, value: &Json) -> Result<String, NoMemory> {
-    if value.has_frac() {
-        return Ok(String::from_str(alloc, "fraction")?);
-    }
-    copied(alloc, write(alloc, value)?)
-}
-
-/// A text as a string.
-pub fn copied(alloc: Global, text: Text) -> Result<String, NoMemory> {
-    let copy = String::from_str(alloc, text.as_str());
-    drop(text);
-    Ok(copy?)
-}
 
 /// What bytes are written as that stand for a JSON value, or `refused`.
 fn again(alloc: Global, bytes: &[u8]) -> Result<String, NoMemory> {

@@ -1,9 +1,7 @@
 //! Objects that are put together of their fields.
-use crate::fields::object;
-use crate::texts::copied;
 use mix_base::{Json, JsonObj, NoMemory};
 use mix_json::{Fields, Items};
-use mix_tables::{Table, cell};
+use mix_tables::{Table, cell, copied, object};
 use std::alloc::Global;
 
 /// Cells: the text that is written; `each` where each value is put together of its own, or `whole`

@@ -1,7 +1,6 @@
 //! The UUID of a serial.
-use crate::texts::copied;
 use mix_base::{NoMemory, Serial, uuid_text};
-use mix_tables::{Table, number};
+use mix_tables::{Table, copied, number};
 use std::alloc::Global;
 
 /// Cells: the UUID, and the serial.

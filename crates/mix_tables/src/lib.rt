@@ -5,9 +5,11 @@
 mod cells;
 mod going;
 mod table;
+mod texts;
 mod trouble;
 
 pub use cells::{cell, decoded, number, pieces};
 pub use going::{go, go_through};
 pub use table::Table;
+pub use texts::{copied, object, quoted, written};
 pub use trouble::Trouble;

@@ -1,10 +1,9 @@
 //! What a message asks for, and what mask a session has.
-use crate::fields::quoted;
 use crate::hearing::{Situations, fresh, hear};
 use mix_base::{NoMemory, Text};
 use mix_model::{Ask, BatchAsk, Body};
 use mix_session::{Heard, Session};
-use mix_tables::{Table, cell};
+use mix_tables::{Table, cell, quoted};
 use std::alloc::Global;
 
 /// Cells: what an identified connection asks for, and its message.

@@ -2,12 +2,11 @@
 ghost use Rattle.std.specs.Prelude.{IfOk, IfSome, All};
 ghost use Rattle.mix_events.specs.Sayable.{IsSayableDone, IsWholeAnswer};
 
-use crate::texts::copied;
 use mix_base::{Json, NoMemory, Text};
 use mix_events::{said_text, status_name};
 use mix_json::{JsonFault, read};
 use mix_model::{Done, DoneList, Said};
-use mix_tables::{Table, cell, number};
+use mix_tables::{Table, cell, copied, number};
 use std::alloc::Global;
 
 /// Cells: the text, and then what was done: the id of the request, its type, the status, and the

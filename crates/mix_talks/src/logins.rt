@@ -1,12 +1,11 @@
 //! Answers of a login, and what is said first.
 use crate::hearing::ZEROS;
-use crate::texts::copied;
 use hex::FromHex;
 use mix_base::{Bytes32, NoMemory, Text, TextFault};
 use mix_events::said_text;
 use mix_model::Said;
 use mix_session::{Secret, Session, answer_for};
-use mix_tables::{Table, cell, decoded};
+use mix_tables::{Table, cell, copied, decoded};
 use std::alloc::Global;
 
 /// Cells: the answer, the password, and the salt and the challenge in hexadecimal.

@@ -2,14 +2,12 @@
 ghost use Rattle.std.specs.Prelude.{IfOk, IfSome};
 ghost use Rattle.mix_events.specs.Sayable.{IsSayableEvent};
 
-use crate::fields::object;
-use crate::texts::copied;
 use crate::{inputs, items, others, scenes};
 use mix_base::{JsonObj, NoMemory};
 use mix_events::{intent, said_text};
 use mix_json::{need_int, need_obj};
 use mix_model::{Event, Said};
-use mix_tables::{Table, cell};
+use mix_tables::{Table, cell, copied, object};
 use std::alloc::Global;
 
 /// Cells: the type of an event, and its text.
