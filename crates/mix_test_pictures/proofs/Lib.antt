@@ -1,0 +1,2 @@
+-- what is found in the small tree is valid
+pub mod SmallLemmas
