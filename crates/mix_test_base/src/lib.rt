@@ -1,0 +1,5 @@
+//! Nothing but tests: plain data, and the outside.
+#![tactic(auto)]
+
+#[cfg(test)]
+mod tests;
