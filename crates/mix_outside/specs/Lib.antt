@@ -1,5 +1,6 @@
 pub mod Bytes
 pub mod Calls
+pub mod Devices
 pub mod Faults
 pub mod Filling
 pub mod Lines

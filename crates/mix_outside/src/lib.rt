@@ -4,6 +4,9 @@
 
 mod buffered;
 mod calls;
+mod device_sink;
+mod device_source;
+mod devices;
 mod file_sink;
 mod file_source;
 mod lines;
@@ -15,6 +18,9 @@ mod sink;
 mod source;
 
 pub use buffered::Buffered;
+pub use device_sink::DeviceSink;
+pub use device_source::DeviceSource;
+pub use devices::{InDevice, OutDevice};
 pub use file_sink::FileSink;
 pub use file_source::FileSource;
 pub use lines::Met;
@@ -24,4 +30,3 @@ pub use out_sink::OutSink;
 pub use read_ahead::ReadAhead;
 pub use sink::{Put, Sink};
 pub use source::{Source, Take};
-
