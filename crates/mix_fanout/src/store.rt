@@ -20,6 +20,8 @@ pub fn take_in(store: &mut Slab<Kept>, event: Event, holders: usize)
 {
     if holders > 0 {
         store.insert_reserved(Kept { event, holders });
+    } else {
+        drop(event);
     }
 }
 
@@ -66,12 +68,15 @@ pub fn texts(
     ensures said { IfOk result (λ said. said.items ≡ map OfEvent (events_of store.now keys.now)) }
     ensures room { IfOk result (λ said. vec_len said + more ≤ vec_capacity said) }
 {
-    let mut said = Vec::new(alloc);
+    let mut said = Vec::with_capacity(alloc, keys.len() + more as usize)?;
     for key in keys {
         if let Some(kept) = store.get(*key) {
-            said.push(Said::Event(copy_event(alloc, &kept.event)?))?;
+            let Ok(event) = copy_event(alloc, &kept.event) else {
+                drop(said);
+                return Err(NoMemory);
+            };
+            said.push_reserved(Said::Event(event));
         }
     }
-    said.reserve(more as usize)?;
     Ok(said)
 }

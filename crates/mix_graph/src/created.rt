@@ -96,7 +96,10 @@ impl Sources {
         ensures err { OnErr result (self.new ≡ self.old) }
     {
         let serial = Serial(self.next_serial);
-        reserve_source(&mut self.rows, &mut self.dying, &mut self.scenes)?;
+        let Ok(()) = reserve_source(&mut self.rows, &mut self.dying, &mut self.scenes) else {
+            drop(name);
+            return Err(NoMemory);
+        };
         let row = new_row(alloc, serial, name, Kind::Scene, Settings::None);
         self.rows.push_reserved(row);
         self.scenes.push_reserved(serial);

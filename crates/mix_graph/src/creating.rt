@@ -33,9 +33,11 @@ impl Graph {
             (group_created name parent spec self.old.present)) result }
     {
         if let Err(fault) = self.sources.check_shown(name.bytes(), Kind::Group, parent) {
+            drop(name);
             return Err(fault);
         }
         let Ok(()) = self.tally.grow() else {
+            drop(name);
             return Err(GraphFault::NoMemory);
         };
         match self.sources.create_group(self.alloc, name, parent, &spec) {
@@ -72,9 +74,13 @@ impl Graph {
             (input_made name kind settings parent self.old.present)) result }
     {
         if let Err(fault) = self.sources.check_input(name.bytes(), kind, &parent) {
+            drop(name);
+            drop(settings);
             return Err(fault);
         }
         let Ok(()) = self.tally.grow() else {
+            drop(name);
+            drop(settings);
             return Err(GraphFault::NoMemory);
         };
         match self

@@ -17,7 +17,7 @@ fn take_row(rows: &mut Vec<Row>, serial: Serial)
     while index < rows.len() {
         let here = rows[index].serial;
         if here.0 == serial.0 {
-            let _ = rows.remove(index);
+            drop(rows.remove(index));
         } else {
             index += 1;
         }

@@ -140,6 +140,7 @@ impl Graph {
         ensures missing { IsErr result ↔ IsTrue (is_missing self.old.present serial) }
     {
         if !self.sources.is_named(serial) {
+            drop(settings);
             return Err(Missing);
         }
         self.edit_row(serial, RowEdit::Set(settings, sound));
@@ -157,9 +158,11 @@ impl Graph {
             ↔ IsTrue (is_named self.old.present serial && has_name self.old.present name) }
     {
         if !self.sources.is_named(serial) {
+            drop(name);
             return Err(Rename::Missing);
         }
         if self.sources.has_name(name.bytes()) {
+            drop(name);
             return Err(Rename::Exists);
         }
         self.edit_row(serial, RowEdit::Rename(name));

@@ -80,7 +80,7 @@ fn take_frame(frames: &mut Vec<InFlight>, number: u64)
     let mut index = 0;
     while index < frames.len() {
         if is_frame(&frames[index], number) {
-            let _ = frames.remove(index);
+            drop(frames.remove(index));
         } else {
             index += 1;
         }

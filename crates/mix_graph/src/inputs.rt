@@ -52,7 +52,11 @@ impl Sources {
         ensures err { OnErr result (self.new ≡ self.old) }
     {
         let serial = Serial(self.next_serial);
-        reserve_source(&mut self.rows, &mut self.dying, &mut self.inputs)?;
+        let Ok(()) = reserve_source(&mut self.rows, &mut self.dying, &mut self.inputs) else {
+            drop(name);
+            drop(settings);
+            return Err(NoMemory);
+        };
         let row = new_row(alloc, serial, name, kind, settings);
         self.rows.push_reserved(row);
         self.inputs.push_reserved(serial);

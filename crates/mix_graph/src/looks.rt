@@ -129,6 +129,7 @@ impl Sources {
         ensures { self.new ≡ row_changed serial (row_edited edit) self.old }
     {
         let Some(at) = place_of(self.rows.as_slice(), serial) else {
+            drop(edit);
             return;
         };
         edit_at(alloc, &mut self.rows, at, edit);

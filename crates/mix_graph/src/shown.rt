@@ -29,7 +29,7 @@ use std::alloc::Global;
 fn drop_last(rows: &mut Vec<Row>)
     ensures rows { rows.new.items ≡ take (vec_len rows.old - 1) rows.old.items }
 {
-    let _ = rows.pop();
+    drop(rows.pop());
 }
 
 /// Puts a row at the end, and an item that shows it on top of the row at an index.
@@ -134,7 +134,11 @@ impl Sources {
             unreachable!()
         };
         let serial = Serial(self.next_serial);
-        reserve_source(&mut self.rows, &mut self.dying, &mut self.inputs)?;
+        let Ok(()) = reserve_source(&mut self.rows, &mut self.dying, &mut self.inputs) else {
+            drop(name);
+            drop(settings);
+            return Err(NoMemory);
+        };
         let row = new_row(alloc, serial, name, kind, settings);
         match push_shown(alloc, &mut self.rows, at, row, spec) {
             Err(fault) => Err(fault),

@@ -10,5 +10,3 @@ pub mod ValidLemmas
 pub mod SinceLemmas
 -- the loops that list items and roots
 pub mod LoopLemmas
--- the tree of the tests
-pub mod SmallLemmas

@@ -1,4 +1,3 @@
 pub mod Listed
 pub mod Seen
 pub mod Laws
-pub mod Small

@@ -51,13 +51,18 @@ impl Listing {
         if !has_pixels(row.settings) {
             return Ok(());
         }
-        let draw = Draw {
-            settings: row.settings.copy()?,
-            since: row.since,
-            steps: ListOf::from_vec(Vec::from_slice(alloc, self.steps.as_slice())?),
-            blend,
+        self.draws.reserve(1)?;
+        let steps = Vec::from_slice(alloc, self.steps.as_slice())?;
+        let Ok(settings) = row.settings.copy() else {
+            drop(steps);
+            return Err(NoMemory);
         };
-        self.draws.push(draw)?;
+        self.draws.push_reserved(Draw {
+            settings,
+            since: row.since,
+            steps: ListOf::from_vec(steps),
+            blend,
+        });
         Ok(())
     }
 

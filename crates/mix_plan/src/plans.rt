@@ -53,7 +53,7 @@ fn list_roots<T: Tree>(
 {
     let mut listing = Listing::new(alloc);
     for root in roots {
-        list_row(
+        let Ok(()) = list_row(
             alloc,
             tree,
             canvas,
@@ -61,7 +61,10 @@ fn list_roots<T: Tree>(
             *root,
             Blend::Normal,
             &mut listing,
-        )?;
+        ) else {
+            drop(listing);
+            return Err(NoMemory);
+        };
     }
     Ok(listing.into_draws())
 }

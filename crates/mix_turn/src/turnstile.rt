@@ -61,10 +61,19 @@ impl<V: Turned> Turnstile<V> {
         ensures start { IfOk result (λ made. made.0.start ≡ V.start value) }
         ensures first { IfOk result (λ made. IsFirst made.0 made.1) }
     {
-        let start = Start::of(alloc, &value)?;
-        let mut slots = Vec::with_capacity(alloc, 1)?;
-        slots.push(Some(value))?;
-        match Table::new(alloc, &[1, 0, 0], slots, &start) {
+        let Ok(mut slots) = Vec::with_capacity(alloc, 1) else {
+            drop(value);
+            return Err(NoMemory);
+        };
+        let Ok(start) = Start::of(alloc, &value) else {
+            drop(slots);
+            drop(value);
+            return Err(NoMemory);
+        };
+        slots.push_reserved(Some(value));
+        let opened = Table::new(alloc, &[1, 0, 0], slots, &start);
+        drop(start);
+        match opened {
             Ok((table, seat)) => Ok((
                 Turnstile { table },
                 Pass {

@@ -11,12 +11,12 @@ loop-root-preserved g c =
     let is = slice_get_read c.args.roots.now _ c.loop-root.root-index c.root-item.result refl
     c.loop-root-test.true c.root-item.is in
     record {
-      steps = c.in_ok-list_row.ensures.steps ∙ c.loop-root.invariant.steps;
+      steps = c.in-Ok.ensures.steps ∙ c.loop-root.invariant.steps;
       draws = draws_more _ c.args.roots.now c.loop-root.root-index c.root-item.result
           c.loop-root.listing.draws.items _ _ is c.loop-root.invariant.draws
-          (rw c.loop-root.invariant.steps at c.in_ok-list_row.ensures.draws);
+          (rw c.loop-root.invariant.steps at c.in-Ok.ensures.draws);
       sound = tests_more _ c.args.roots.now c.loop-root.root-index c.root-item.result _ is
-          c.loop-root.invariant.sound c.in_ok-list_row.ensures.sound;
+          c.loop-root.invariant.sound c.in-Ok.ensures.sound;
     }
 
 pub returns-clause-value : goal.returns-clause-value

@@ -27,9 +27,9 @@ push_shown-requires-clause-drawn c = λ d.
     let drawn = rw (← c.self.view_is) at c.requires.item_drawn in
     rw c.reserve_source.ensures.rows (rw found at drawn)
 
-pub invariant_of-self-in-Ok : goal.invariant_of-self-in-Ok
+pub invariant_of-self-in-Ok-push_shown : goal.invariant_of-self-in-Ok-push_shown
 unfolding new_row
-invariant_of-self-in-Ok c =
+invariant_of-self-in-Ok-push_shown c =
     let rows : c.self.inside.rows.items ≡ c.args.self.now.rows =
     ap (λ (g : GraphState). g.rows) c.self.view_is in
     let next : c.self.inside.next_serial ≡ c.args.self.now.next_serial =
@@ -43,16 +43,16 @@ invariant_of-self-in-Ok c =
     (vec_capacity c.reserve_source.new.dying) c.self.inside.next_serial c.in-Some.at
     c.new_row-row.result.serial c.args.spec.now some_row
     (rw c.reserve_source.ensures.dying c.self.invariant) bare
-    (grind (arith, common_steps, c.in_ok-reserve_source.ensures.dying_room))
+    (grind (arith, common_steps, c.in-Ok.ensures.dying_room))
     (rw next c.requires.drawn) (ap (λ (r : Row). r.serial) c.new_row-row.ensures) below
-    (rw (← c.reserve_source.ensures.rows) (c.in-Ok.ensures.ok some_row))
+    (rw (← c.reserve_source.ensures.rows) (c.in-Ok-push_shown.ensures.ok some_row))
     (rw c.new_row-row.ensures (shown_few c.self.inside.rows.items c.args.self.now rows
     c.self.inside.next_serial next c.args.name c.args.kind c.args.settings c.args.parent
     c.args.spec.now c.in-Some.at some_row c.self.invariant.differ c.self.invariant.below below
     here c.requires.there c.requires.few))
 
-pub returns-in-Ok-clause-item : goal.returns-in-Ok-clause-item
-returns-in-Ok-clause-item c =
+pub returns-in-Ok-push_shown-clause-item : goal.returns-in-Ok-push_shown-clause-item
+returns-in-Ok-push_shown-clause-item c =
     let rows : c.self.inside.rows.items ≡ c.args.self.now.rows =
     ap (λ (g : GraphState). g.rows) c.self.view_is in
     let within = rw (c.as_slice.ensures.value, rows) at c.in-Some.ensures.within in
@@ -60,17 +60,17 @@ returns-in-Ok-clause-item c =
     at (c.in-Some.ensures.at some_row) in
     shown_item c.args.self.now c.args.parent c.in-Some.at _ some_row
     (rw rows at c.self.invariant.differ) within here
-    (rw (c.reserve_source.ensures.rows, rows) at (c.in-Ok.ensures.reply some_row))
+    (rw (c.reserve_source.ensures.rows, rows) at (c.in-Ok-push_shown.ensures.reply some_row))
 
-pub returns-in-Ok-clause-ok : goal.returns-in-Ok-clause-ok
+pub returns-in-Ok-push_shown-clause-ok : goal.returns-in-Ok-push_shown-clause-ok
 unfolding new_row
-returns-in-Ok-clause-ok c =
+returns-in-Ok-push_shown-clause-ok c =
     let below : c.in-Some.at < length c.self.inside.rows.items =
     rw c.as_slice.ensures.value at c.in-Some.ensures.within in
     let here = rw c.as_slice.ensures.value at (c.in-Some.ensures.at some_row) in
     rw (
       ← c.self.view_is,
-      c.in-Ok.ensures.ok some_row,
+      c.in-Ok-push_shown.ensures.ok some_row,
       c.list_input.ensures,
       c.reserve_source.ensures.rows,
       c.reserve_source.ensures.dying,

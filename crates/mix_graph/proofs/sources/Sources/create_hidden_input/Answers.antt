@@ -19,7 +19,7 @@ invariant_of-self-2 c =
     (vec_capacity c.reserve_source.new.dying) c.self.inside.next_serial
     (rw c.reserve_source.ensures.dying c.self.invariant)
     (rw (← c.reserve_source.ensures.rows) c.push_reserved.ensures.items) bare
-    (grind (arith, common_steps, c.in_ok-reserve_source.ensures.dying_room))
+    (grind (arith, common_steps, c.in-Ok.ensures.dying_room))
     (rw next c.requires.drawn) (ap (λ (r : Row). r.serial) c.new_row-row.ensures)
 
 pub returns-clause-ok : goal.returns-clause-ok
