@@ -50,7 +50,8 @@ impl<T: Drop> From<AllocFailed<T>> for Fault {
 
     ghost from_gives = { λ _ fault. fault ≡ NoMemory };
 
-    fn from(_error: AllocFailed<T>) -> Fault {
+    fn from(error: AllocFailed<T>) -> Fault {
+        drop(error);
         Fault::NoMemory
     }
 }

@@ -66,7 +66,10 @@ pub fn object(value: Json) -> Result<JsonObj, u16>
 {
     match value {
         Json::Obj(fields) => Ok(fields),
-        _ => Err(WRONG_TYPE),
+        other => {
+            drop(other);
+            Err(WRONG_TYPE)
+        }
     }
 }
 
@@ -140,7 +143,10 @@ pub fn list_at(fields: JsonObj, key: &str) -> Result<JsonList, u16>
 {
     match taken(fields, key)? {
         Json::List(items) => Ok(items),
-        _ => Err(WRONG_TYPE),
+        other => {
+            drop(other);
+            Err(WRONG_TYPE)
+        }
     }
 }
 
@@ -151,6 +157,9 @@ pub fn body_at(fields: JsonObj, key: &str) -> Body
     match fields.into_value(key) {
         None | Some(Json::Null) => Body::Absent,
         Some(Json::Obj(body)) => Body::Fields(body),
-        Some(_) => Body::Wrong,
+        Some(other) => {
+            drop(other);
+            Body::Wrong
+        }
     }
 }

@@ -22,8 +22,9 @@ pub fn answer_for(
         (λ answer. answer ≡ answer_of password.now salt.now challenge.now) }
 {
     let salted = digest_with(alloc, password.bytes(), salt)?;
-    let answer = digest_with(alloc, salted.as_bytes(), challenge)?;
-    Text::from_string(answer)
+    let answer = digest_with(alloc, salted.as_bytes(), challenge);
+    drop(salted);
+    Text::from_string(answer?)
 }
 
 /// The base64 of the digest of a text and the base64 of thirty-two bytes.
@@ -35,6 +36,7 @@ fn digest_with(alloc: Global, text: &[u8], bytes: &Bytes32) -> Result<String, Al
     let mut hasher = Sha256::new();
     hasher.update(text);
     hasher.update(encoded.as_bytes());
+    drop(encoded);
     let digest: [u8; 32] = hasher.finalize();
     STANDARD.encode(alloc, &digest)
 }

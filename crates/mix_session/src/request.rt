@@ -20,8 +20,21 @@ const MOST_ENTRIES: usize = 256;
 pub fn request(fields: JsonObj) -> Result<Ask, Fault>
     ensures value { Answers result (request_of fields) }
 {
-    let id = text_at(&fields, "requestId")?;
-    let kind = text_at(&fields, "requestType")?;
+    let id = match text_at(&fields, "requestId") {
+        Ok(id) => id,
+        Err(fault) => {
+            drop(fields);
+            return Err(fault);
+        }
+    };
+    let kind = match text_at(&fields, "requestType") {
+        Ok(kind) => kind,
+        Err(fault) => {
+            drop(id);
+            drop(fields);
+            return Err(fault);
+        }
+    };
     Ok(Ask {
         kind: Some(kind),
         id: Some(id),
@@ -35,8 +48,21 @@ fn ask(entry: Json) -> Result<Ask, Fault>
     ensures value { Answers result (entry_of entry) }
 {
     let fields = object(entry)?;
-    let id = text_if_there(&fields, "requestId")?;
-    let kind = text_if_there(&fields, "requestType")?;
+    let id = match text_if_there(&fields, "requestId") {
+        Ok(id) => id,
+        Err(fault) => {
+            drop(fields);
+            return Err(fault);
+        }
+    };
+    let kind = match text_if_there(&fields, "requestType") {
+        Ok(kind) => kind,
+        Err(fault) => {
+            drop(id);
+            drop(fields);
+            return Err(fault);
+        }
+    };
     Ok(Ask {
         kind,
         id,
@@ -69,6 +95,7 @@ fn entries(alloc: Global, fields: JsonObj) -> Result<AskList, Fault>
 {
     let entries = list_at(fields, "requests")?.into_vec();
     if entries.len() > MOST_ENTRIES {
+        drop(entries);
         return Err(Fault::Close(WRONG_VALUE));
     }
     each(alloc, entries)

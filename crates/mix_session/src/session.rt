@@ -80,13 +80,17 @@ impl Session {
             )),
             Some(secret) => {
                 let expected = answer_for(alloc, &secret.password, &secret.salt, challenge)?;
+                let Ok(shared) = secret.share() else {
+                    drop(expected);
+                    return Err(NoMemory);
+                };
                 let login = Login {
                     salt: secret.salt,
                     challenge: *challenge,
                 };
                 Ok((
                     Session {
-                        secret: Some(secret.share()?),
+                        secret: Some(shared),
                         challenge: *challenge,
                         expected: Some(expected),
                         mask: None,
@@ -136,7 +140,10 @@ fn message(alloc: Global, text: &Text) -> Result<JsonObj, Fault>
 {
     match mix_json::read(alloc, text.bytes()) {
         Ok(Json::Obj(fields)) => Ok(fields),
-        Ok(_) => Err(Fault::Close(NOT_DECODED)),
+        Ok(other) => {
+            drop(other);
+            Err(Fault::Close(NOT_DECODED))
+        }
         Err(JsonFault::NotJson) => Err(Fault::Close(NOT_DECODED)),
         Err(JsonFault::NoMemory) => Err(Fault::NoMemory),
     }
@@ -153,8 +160,16 @@ fn of_kind(
     ensures value { Answers result (of_kind op (option_copied expected.entry) mask fields) }
 {
     match op {
-        Op::Identify => Ok(identify(expected, mask, &fields)?),
-        Op::Reidentify => Ok(reidentify(mask, &fields)?),
+        Op::Identify => {
+            let heard = identify(expected, mask, &fields);
+            drop(fields);
+            Ok(heard?)
+        }
+        Op::Reidentify => {
+            let heard = reidentify(mask, &fields);
+            drop(fields);
+            Ok(heard?)
+        }
         Op::Request => Ok(Heard::Ask(request(fields)?)),
         Op::RequestBatch => Ok(Heard::Batch(batch(alloc, fields)?)),
     }
@@ -174,9 +189,21 @@ fn heard_text(
         return Err(Fault::Close(NOT_DECODED));
     }
     let message = message(alloc, text)?;
-    let number = whole_at(&message, "op")?;
+    let number = match whole_at(&message, "op") {
+        Ok(number) => number,
+        Err(code) => {
+            drop(message);
+            return Err(Fault::Close(code));
+        }
+    };
     let fields = object_at(message, "d")?;
-    let op = Op::of_number(number).ok_or(UNKNOWN_OP)?;
-    op.in_turn(mask)?;
+    let Some(op) = Op::of_number(number) else {
+        drop(fields);
+        return Err(Fault::Close(UNKNOWN_OP));
+    };
+    if let Err(code) = op.in_turn(mask) {
+        drop(fields);
+        return Err(Fault::Close(code));
+    }
     of_kind(alloc, op, expected, mask, fields)
 }
