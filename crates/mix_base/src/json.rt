@@ -68,9 +68,13 @@ fn list_has_frac(items: &[Json]) -> bool
 fn copy_list(alloc: Global, items: &[Json]) -> Result<JsonList, NoMemory>
     ensures { IfOk result (λ copy. copy ≡ items.now) }
 {
-    let mut copy = Vec::new(alloc);
+    let mut copy = Vec::with_capacity(alloc, items.len())?;
     for item in items {
-        copy.push(item.copy(alloc)?)?;
+        let Ok(item) = item.copy(alloc) else {
+            drop(copy);
+            return Err(NoMemory);
+        };
+        copy.push_reserved(item);
     }
     Ok(ListOf::from_vec(copy))
 }
@@ -94,11 +98,19 @@ impl Members<Json> {
     pub fn copy(&self, alloc: Global) -> Result<JsonObj, NoMemory>
         ensures value { IfOk result (λ copy. copy ≡ self.now) }
     {
-        let mut copy = Vec::new(alloc);
-        for member in self.as_slice() {
-            let key = member.key.share()?;
-            let value = member.value.copy(alloc)?;
-            copy.push(Member { key, value })?;
+        let members = self.as_slice();
+        let mut copy = Vec::with_capacity(alloc, members.len())?;
+        for member in members {
+            let Ok(key) = member.key.share() else {
+                drop(copy);
+                return Err(NoMemory);
+            };
+            let Ok(value) = member.value.copy(alloc) else {
+                drop(key);
+                drop(copy);
+                return Err(NoMemory);
+            };
+            copy.push_reserved(Member { key, value });
         }
         Ok(Members::from_rising(copy))
     }

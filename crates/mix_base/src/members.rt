@@ -104,9 +104,13 @@ impl<V: Drop> Members<V> {
     {
         let Members { members } = self;
         for member in members {
-            if key == member.key.as_str() {
-                return Some(member.value);
+            let Member { key: own, value } = member;
+            let found = key == own.as_str();
+            drop(own);
+            if found {
+                return Some(value);
             }
+            drop(value);
         }
         None
     }
@@ -119,12 +123,21 @@ impl<V: Drop> Members<V> {
             ((other : List ℕ) → other ≢ key → get_of other self.new ≡ get_of other self.old) }
         ensures err { OnErr result (self.new ≡ self.old) }
     {
-        match place_of(self.members.as_slice(), key.as_str()) {
-            Ok(place) => self.members[place] = Member { key, value },
-            Err(place) => self.members.insert(place, Member { key, value })?,
-        }
+        put_in(&mut self.members, key, value)?;
         Ok(())
     }
+}
+
+/// Sets the value of one key.
+fn put_in<V: Drop>(members: &mut Vec<Member<V>>, key: Text, value: V) -> Result<(), NoMemory>
+    ensures ok { OnOk result (members.new.items ≡ put_of key value members.old.items) }
+    ensures err { OnErr result (members.new.items ≡ members.old.items) }
+{
+    match place_of(members.as_slice(), key.as_str()) {
+        Ok(place) => members[place] = Member { key, value },
+        Err(place) => members.insert(place, Member { key, value })?,
+    }
+    Ok(())
 }
 
 /// Where the member with this key stands, or else where one has to go in.
