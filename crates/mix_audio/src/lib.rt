@@ -5,7 +5,5 @@ pub mod laws;
 mod mixing;
 mod share;
 mod sums;
-#[cfg(test)]
-mod tests;
 
 pub use mixing::mix;

@@ -7,8 +7,6 @@ mod pcm;
 mod pixel;
 mod raw;
 mod row;
-#[cfg(test)]
-mod tests;
 
 pub use pcm::pcm_s16le;
 pub use raw::{raw_i420, raw_rgba};

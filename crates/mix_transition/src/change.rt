@@ -2,7 +2,7 @@
 use std::marker::Model;
 
 /// What a call changed, as it is told.
-#[derive(Clone, Copy, Debug, PartialEq, Eq)]
+#[derive(Clone, Copy)]
 pub struct BusChange {
     /// A running fade ended.
     pub ended: bool,

@@ -5,8 +5,6 @@ mod bus;
 mod change;
 pub mod laws;
 mod program;
-#[cfg(test)]
-mod tests;
 
 pub use bus::ProgramBus;
 pub use change::BusChange;
