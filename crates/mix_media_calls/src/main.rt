@@ -1,0 +1,28 @@
+//! Goes through tables of cases for the program bus, for blocks of sound and for the payloads of a
+//! record, and writes for each table how many of its lines hold.
+#![tactic(auto)]
+
+mod blocks;
+mod buses;
+mod payloads;
+mod tones;
+
+use blocks::Blocks;
+use buses::Buses;
+use mix_tables::{Trouble, go};
+use payloads::{Pictures, Tracks};
+use std::process::ExitCode;
+
+fn run(rt: &HostRuntime) -> Result<(), Trouble> {
+    go(rt, "buses", &Buses)?;
+    go(rt, "blocks", &Blocks)?;
+    go(rt, "pictures", &Pictures)?;
+    go(rt, "tracks", &Tracks)
+}
+
+fn main(rt: HostRuntime) -> ExitCode {
+    match run(&rt) {
+        Ok(()) => ExitCode::SUCCESS,
+        Err(_) => ExitCode::FAILURE,
+    }
+}

@@ -1,0 +1,4 @@
+pub mod Seen
+pub mod Shape
+pub mod Inside
+pub mod Laws
