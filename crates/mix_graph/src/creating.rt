@@ -33,11 +33,9 @@ impl Graph {
             (group_created name parent spec self.old.present)) result }
     {
         if let Err(fault) = self.sources.check_shown(name.bytes(), Kind::Group, parent) {
-            drop(name);
             return Err(fault);
         }
         let Ok(()) = self.tally.grow() else {
-            drop(name);
             return Err(GraphFault::NoMemory);
         };
         match self.sources.create_group(self.alloc, name, parent, &spec) {

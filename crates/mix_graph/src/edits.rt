@@ -158,11 +158,9 @@ impl Graph {
             ↔ IsTrue (is_named self.old.present serial && has_name self.old.present name) }
     {
         if !self.sources.is_named(serial) {
-            drop(name);
             return Err(Rename::Missing);
         }
         if self.sources.has_name(name.bytes()) {
-            drop(name);
             return Err(Rename::Exists);
         }
         self.edit_row(serial, RowEdit::Rename(name));

@@ -69,11 +69,9 @@ impl Graph {
             (scene_cause self.old.present name (scene_created name self.old.present)) result }
     {
         if let Err(fault) = self.sources.check_source(name.bytes()) {
-            drop(name);
             return Err(fault);
         }
         let Ok(()) = self.tally.grow() else {
-            drop(name);
             return Err(GraphFault::NoMemory);
         };
         match self.sources.create_scene(self.alloc, name) {

@@ -150,7 +150,6 @@ impl<V: Turned> Turnstile<V> {
 
     /// A further pass, with a number of its own. It looks once at the count of numbers, and tries
     /// once for the next at most.
-    #[tactic(auto, using(crate::proofs::PassLemmas::told_entries, crate::proofs::PassLemmas::told_below))]
     pub fn split(&self, pass: &mut Pass<V>) -> Result<Pass<V>, SplitFault>
         requires of { IsOf self.now pass.old }
         ensures of { IsOf self.now pass.new }
