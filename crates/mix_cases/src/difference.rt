@@ -20,6 +20,7 @@ pub enum Difference {
 }
 
 /// The line in which two texts differ first: all that stands before it is the same.
+#[tactic(auto, using(std::proofs::lemmas::List::take_more_same))]
 pub fn first_difference(wanted: &[u8], written: &[u8]) -> Option<Place>
     ensures same { result ≡ None ↔ wanted.now ≡ written.now }
     ensures front { IfSome result (λ place.

@@ -141,9 +141,7 @@ pub fn expect(
 ) -> Result<(), Fail> {
     let left = run(alloc, given)?;
     let ended = left.status;
-    let is_right = ended == status
-        && left.output.held() == output
-        && left.record.held().is_empty();
+    let is_right = ended == status && left.output.held() == output && left.record.held().is_empty();
     drop(left);
     settle(is_right, ended, case)
 }

@@ -31,25 +31,6 @@ static EVENT: &[u8] =
     br#">c2 {"d":{"eventData":{},"eventIntent":1,"eventType":"CustomEvent"},"op":5}
 "#;
 
-/// How many events the first one sends, the lines that come then, and what is written for these
-/// behind the events.
-type Waiting = (usize, &'static [u8], &'static [u8]);
-
-/// With 4,096 waiting texts a connection is cut: it is told them, and closed. The one that sent them
-/// stays, and one text fewer leaves it open. Nothing more is queued for who is cut, and its next
-/// action does nothing else, be it a poll, a leave or a message.
-static WAITING: [Waiting; 4] = [
-    (4096, b"?c2\n?c1\n?c2\n", b"!c2 4011\n!c2 gone\n"),
-    (4095, b"?c2\n?c1\n?c2\n-c2\n", b"-c2\n"),
-    (4096, b"-c2\n-c2\n", b"!c2 4011\n!c2 gone\n"),
-    (
-        4096,
-        br#"<c2 {"op":3,"d":{"eventSubscriptions":0}}
-"#,
-        b"!c2 4011\n",
-    ),
-];
-
 /// The answers to the first one, what the second one is told, and then these lines.
 fn output_of(alloc: Global, events: usize, last: &[u8]) -> Result<Vec<u8>, AllocError> {
     let answers = repeated(alloc, OPENED, SENT, events, b"")?;
@@ -58,8 +39,9 @@ fn output_of(alloc: Global, events: usize, last: &[u8]) -> Result<Vec<u8>, Alloc
     output
 }
 
-fn expect_waiting(alloc: Global, waiting: Waiting) -> Result<(), Fail> {
-    let (events, lines, last) = waiting;
+/// The first one sends so many events, and then these lines come. After the answers, the second one
+/// is told the events, and then these lines are written.
+fn expect_waiting(alloc: Global, events: usize, lines: &[u8], last: &[u8]) -> Result<(), Fail> {
     let script = repeated(alloc, OPENS, SEND, events, lines)?;
     let output = match output_of(alloc, events, last) {
         Ok(output) => output,
@@ -79,10 +61,27 @@ fn expect_waiting(alloc: Global, waiting: Waiting) -> Result<(), Fail> {
     result
 }
 
+/// With 4,096 waiting texts a connection is cut: it is told them, and closed. The one that sent them
+/// stays.
 #[test]
 fn four_thousand_waiting_texts(rt: HostRuntime) -> Result<(), Fail> {
-    for waiting in WAITING {
-        expect_waiting(rt.alloc(), waiting)?;
-    }
-    Ok(())
+    let lines = b"?c2\n?c1\n?c2\n";
+    expect_waiting(rt.alloc(), 4096, lines, b"!c2 4011\n!c2 gone\n")
+}
+
+#[test]
+fn one_text_fewer(rt: HostRuntime) -> Result<(), Fail> {
+    expect_waiting(rt.alloc(), 4095, b"?c2\n?c1\n?c2\n-c2\n", b"-c2\n")
+}
+
+/// What a connection says that is cut.
+static MESSAGE: &[u8] = br#"<c2 {"op":3,"d":{"eventSubscriptions":0}}
+"#;
+
+/// Nothing more is queued for who is cut, and its next action does nothing else, be it a leave or a
+/// message.
+#[test]
+fn who_is_cut_does_nothing_else(rt: HostRuntime) -> Result<(), Fail> {
+    expect_waiting(rt.alloc(), 4096, b"-c2\n-c2\n", b"!c2 4011\n!c2 gone\n")?;
+    expect_waiting(rt.alloc(), 4096, MESSAGE, b"!c2 4011\n")
 }
