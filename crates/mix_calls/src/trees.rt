@@ -40,18 +40,49 @@ fn with_each(value: &Json, alloc: Global, fields: Fields, key: &str) -> Result<F
         Json::Bool(truth) => fields.truth(key, *truth),
         Json::Int(number) => fields.int(key, *number),
         Json::Text(text) => fields.text(key, text.as_str()),
-        Json::List(items) => fields.list(key, each_item(items.as_slice(), alloc)?),
-        Json::Obj(obj) => fields.obj(key, each(obj, alloc)?),
+        Json::List(items) => with_list(each_item(items.as_slice(), alloc), fields, key),
+        Json::Obj(obj) => with_obj(each(obj, alloc), fields, key),
+    }
+}
+
+fn with_list(list: Result<Items, NoMemory>, fields: Fields, key: &str) -> Result<Fields, NoMemory> {
+    match list {
+        Ok(list) => fields.list(key, list),
+        Err(NoMemory) => {
+            drop(fields);
+            Err(NoMemory)
+        }
+    }
+}
+
+fn with_obj(obj: Result<Fields, NoMemory>, fields: Fields, key: &str) -> Result<Fields, NoMemory> {
+    match obj {
+        Ok(obj) => fields.obj(key, obj),
+        Err(NoMemory) => {
+            drop(fields);
+            Err(NoMemory)
+        }
     }
 }
 
 #[cycle(each)]
 fn each_item(items: &[Json], alloc: Global) -> Result<Items, NoMemory> {
     let mut list = Items::new(alloc);
-    for item in items {
-        push_each(item, alloc, &mut list)?;
+    match push_all(items, alloc, &mut list) {
+        Ok(()) => Ok(list),
+        Err(NoMemory) => {
+            drop(list);
+            Err(NoMemory)
+        }
     }
-    Ok(list)
+}
+
+#[cycle(each)]
+fn push_all(items: &[Json], alloc: Global, list: &mut Items) -> Result<(), NoMemory> {
+    for item in items {
+        push_each(item, alloc, list)?;
+    }
+    Ok(())
 }
 
 #[cycle(each)]
@@ -103,5 +134,11 @@ fn with_copy(value: &Json, alloc: Global, fields: Fields, key: &str) -> Result<F
     if value.has_frac() {
         return fields.null(key);
     }
-    fields.value(key, value.copy(alloc)?)
+    match value.copy(alloc) {
+        Ok(copy) => fields.value(key, copy),
+        Err(NoMemory) => {
+            drop(fields);
+            Err(NoMemory)
+        }
+    }
 }

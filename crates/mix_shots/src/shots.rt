@@ -1,11 +1,11 @@
 //! Shots that the lines of a table give.
-ghost use Rattle.std.specs.Prelude.{◌≡◌, ◌<◌, IfOk, IsTrue};
-ghost use Rattle.mix_model.specs.Plans.{is_draw, is_shot};
+ghost use Rattle.std.specs.Prelude.{◌≡◌, ◌<◌, ◌++◌, ◌∷◌, [], IfOk, IsTrue};
+ghost use Rattle.mix_model.specs.Plans.{are_paintable, are_paintable_or_none, is_draw, is_shot};
 
 use crate::draws::draw_of;
 use mix_base::{JsonObj, ListOf, NoMemory};
 use mix_json::need_text;
-use mix_model::{Draw, Shot};
+use mix_model::{Draw, DrawList, Shot};
 use mix_tables::object;
 use std::alloc::Global;
 
@@ -107,10 +107,13 @@ fn with(shot: Shot, draw: Draw) -> Result<Shot, NoMemory>
         n,
         over,
     } = shot;
-    let mut draws = from.into_vec();
-    draws.push(draw)?;
+    let Ok(from) = pushed(from, draw) else {
+        drop(to);
+        drop(over);
+        return Err(NoMemory);
+    };
     Ok(Shot {
-        from: ListOf::from_vec(draws),
+        from,
         to,
         t,
         n,
@@ -133,14 +136,17 @@ fn with_over(shot: Shot, draw: Draw) -> Result<Shot, NoMemory>
         n,
         over,
     } = shot;
-    let mut draws = over.into_vec();
-    draws.push(draw)?;
+    let Ok(over) = pushed(over, draw) else {
+        drop(from);
+        drop(to);
+        return Err(NoMemory);
+    };
     Ok(Shot {
         from,
         to,
         t,
         n,
-        over: ListOf::from_vec(draws),
+        over,
     })
 }
 
@@ -159,13 +165,41 @@ fn with_to(alloc: Global, shot: Shot, draw: Draw) -> Result<Shot, NoMemory>
         n,
         over,
     } = shot;
-    let mut draws = to.unwrap_or(ListOf::from_vec(Vec::new(alloc))).into_vec();
-    draws.push(draw)?;
+    let Ok(to) = pushed(list_or_empty(alloc, to), draw) else {
+        drop(from);
+        drop(over);
+        return Err(NoMemory);
+    };
     Ok(Shot {
         from,
-        to: Some(ListOf::from_vec(draws)),
+        to: Some(to),
         t,
         n,
         over,
     })
+}
+
+fn list_or_empty(alloc: Global, draws: Option<DrawList>) -> DrawList
+    requires { IsTrue (are_paintable_or_none 0 draws) }
+    ensures { IsTrue (are_paintable 0 result) }
+{
+    match draws {
+        Some(draws) => draws,
+        None => ListOf::from_vec(Vec::new(alloc)),
+    }
+}
+
+/// The draws with one more at the end.
+fn pushed(draws: DrawList, draw: Draw) -> Result<DrawList, NoMemory>
+    ensures { IfOk result (λ all. all ≡ draws ++ draw ∷ []) }
+{
+    let mut draws = draws.into_vec();
+    match draws.push(draw) {
+        Ok(()) => Ok(ListOf::from_vec(draws)),
+        Err(failed) => {
+            drop(failed);
+            drop(draws);
+            Err(NoMemory)
+        }
+    }
 }

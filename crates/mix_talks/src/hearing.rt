@@ -19,10 +19,20 @@ pub struct Situations {
 
 impl Situations {
     pub fn new(alloc: Global) -> Result<Situations, NoMemory> {
+        let fresh = fresh(alloc)?;
+        let Ok(secret) = secret(alloc) else {
+            drop(fresh);
+            return Err(NoMemory);
+        };
+        let Ok(identified) = identified(alloc) else {
+            drop(fresh);
+            drop(secret);
+            return Err(NoMemory);
+        };
         Ok(Situations {
-            fresh: fresh(alloc)?,
-            secret: secret(alloc)?,
-            identified: identified(alloc)?,
+            fresh,
+            secret,
+            identified,
         })
     }
 

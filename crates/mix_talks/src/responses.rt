@@ -44,9 +44,16 @@ fn done(alloc: Global, line: &str, place: usize) -> Result<Option<Done>, NoMemor
     if status_name(status).is_none() {
         return Ok(None);
     }
-    let id = id_of(alloc, cell(line, place))?;
     let kind = Text::from_str(alloc, cell(line, first))?;
-    let response = answer_of(alloc, cell(line, third))?;
+    let Ok(id) = id_of(alloc, cell(line, place)) else {
+        drop(kind);
+        return Err(NoMemory);
+    };
+    let Ok(response) = answer_of(alloc, cell(line, third)) else {
+        drop(kind);
+        drop(id);
+        return Err(NoMemory);
+    };
     Ok(Some(Done {
         kind,
         id,
@@ -82,23 +89,48 @@ pub struct Batches;
 
 impl Table for Batches {
     fn found(&self, alloc: Global, line: &str) -> Result<String, NoMemory> {
-        let results = results_in(alloc, line)?;
         let id = Text::from_str(alloc, cell(line, 1))?;
-        let said = Said::BatchResponse { id, results };
-        let text = said_text(alloc, &said);
-        drop(said);
-        copied(alloc, text?)
+        match results_in(alloc, line) {
+            Ok(results) => batch(alloc, id, results),
+            Err(NoMemory) => {
+                drop(id);
+                Err(NoMemory)
+            }
+        }
     }
+}
+
+fn batch(alloc: Global, id: Text, results: DoneList) -> Result<String, NoMemory>
+    requires { All IsSayableDone results }
+{
+    let said = Said::BatchResponse { id, results };
+    let text = said_text(alloc, &said);
+    drop(said);
+    copied(alloc, text?)
 }
 
 fn results_in(alloc: Global, line: &str) -> Result<DoneList, NoMemory>
     ensures { IfOk result (λ results. All IsSayableDone results) }
 {
     let mut results = Vec::new(alloc);
+    match push_results(alloc, line, &mut results) {
+        Ok(()) => Ok(DoneList::from_vec(results)),
+        Err(NoMemory) => {
+            drop(results);
+            Err(NoMemory)
+        }
+    }
+}
+
+/// Appends the results of a line.
+fn push_results(alloc: Global, line: &str, results: &mut Vec<Done>) -> Result<(), NoMemory>
+    requires { All IsSayableDone results.old.items }
+    ensures { All IsSayableDone results.new.items }
+{
     for place in (2..line.split('\t').count()).step_by(4) {
         if let Some(done) = done(alloc, line, place)? {
             results.push(done)?;
         }
     }
-    Ok(DoneList::from_vec(results))
+    Ok(())
 }
