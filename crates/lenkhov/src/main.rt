@@ -1,69 +1,77 @@
-//! The program: it makes the objects that its words name, and ends with the status of the run.
+//! The program: it asks the system for its words and its files, and hands the answers to
+//! `mix_program`, which says what each comes to. Trusted edge: the bare calls.
 #![tactic(auto)]
 
-ghost use Rattle.std.specs.Prelude.{◌≡◌, IfOk, false};
-ghost use Rattle.mix_program.specs.Words.{is_replay};
-
-use mix_base::{ListOf, NoMemory, Text};
-use mix_outside::{FileSink, FileSource, MemSink, MemSource, OutSink};
-use mix_program::{Status, run_offline};
-use std::alloc::Global;
+use mix_outside::{FileSink, FileSource, OutSink};
+use mix_program::{Paths, Place, Status, had, keep_apart, paths_of, run_offline, words_of};
 use std::fs::File;
+use std::os::unix::fs::MetadataExt;
 use std::process::ExitCode;
 use std::{env, io};
 
-/// The words after the program's name. Where one isn't UTF-8 there are none.
-fn words_of(rt: &HostRuntime) -> Result<Vec<Text>, NoMemory> {
-    let mut words = Vec::new(rt.alloc());
-    let args = match env::args(rt) {
-        Ok(args) => args,
-        Err(error) if error.kind() == io::ErrorKind::OutOfMemory => return Err(NoMemory),
-        Err(_) => return Ok(words),
-    };
-    for word in args.skip(1) {
-        words.push(Text::from_string(word)?)?;
+/// The files of a run.
+#[derive(Drop)]
+struct Files {
+    collection: File,
+    script: File,
+    tape: File,
+}
+
+/// Where the system keeps an open file, whatever it was named by.
+fn place_of(file: &File) -> io::Result<Place> {
+    let known = file.metadata()?;
+    Ok(Place {
+        device: known.dev(),
+        node: known.ino(),
+    })
+}
+
+/// Empties a file. A device and a pipe keep no bytes.
+fn empty(file: &File) -> io::Result<()> {
+    if file.metadata()?.is_file() {
+        file.set_len(0)?;
     }
-    Ok(words)
+    Ok(())
 }
 
-/// Runs words that name a collection, a script and a record. A file that can't be had is 5.
-fn run_files(rt: &HostRuntime, words: &[Text], paths: [&Text; 3]) -> Result<Status, Status> {
-    let [collection, script, record] = paths;
-    let collection = File::open(rt, collection.as_str()).map_err(|_| Status(5))?;
-    let script = File::open(rt, script.as_str()).map_err(|_| Status(5))?;
-    let record = File::create(rt, record.as_str()).map_err(|_| Status(5))?;
-    let mut from = FileSource::new(collection);
-    let mut script = FileSource::new(script);
-    let mut tape = FileSink::new(record);
-    let mut out = OutSink::new(rt.stdout());
-    let alloc = rt.alloc();
-    Ok(run_offline(alloc, words, &mut from, &mut script, &mut out, &mut tape))
-}
-
-fn nothing<T: Drop>(alloc: Global) -> ListOf<T> {
-    ListOf::from_vec(Vec::new(alloc))
-}
-
-/// Runs words that name no file: all that is read is empty.
-fn run_words(rt: &HostRuntime, words: &[Text]) -> Result<Status, Status>
-    ensures wrong { is_replay words.now ≡ false → IfOk result (λ status. status.0 ≡ 2) }
-{
-    let alloc = rt.alloc();
-    let mut from = MemSource::new(nothing(alloc), nothing(alloc));
-    let mut script = MemSource::new(nothing(alloc), nothing(alloc));
-    let mut tape = MemSink::new(alloc, 0, nothing(alloc)).map_err(|_| Status(8))?;
-    let mut out = OutSink::new(rt.stdout());
-    Ok(run_offline(alloc, words, &mut from, &mut script, &mut out, &mut tape))
+/// Opens the files that words name. The record is emptied, once it is known to be neither of those
+/// that are read.
+fn open_files(rt: &HostRuntime, paths: Paths<'_>) -> Result<Files, Status> {
+    let collection = had(File::open(rt, paths.collection.as_str()))?;
+    let script = had(File::open(rt, paths.script.as_str()))?;
+    let mut how = File::options();
+    how.write(true).create(true);
+    let tape = had(how.open(rt, paths.tape.as_str()))?;
+    keep_apart(
+        had(place_of(&tape))?,
+        had(place_of(&collection))?,
+        had(place_of(&script))?,
+    )?;
+    had(empty(&tape))?;
+    Ok(Files {
+        collection,
+        script,
+        tape,
+    })
 }
 
 fn run(rt: &HostRuntime) -> Result<Status, Status> {
-    let words = words_of(rt).map_err(|_| Status(8))?;
-    match words.as_slice() {
-        [command, collection, script, record] if command.as_str() == "replay" => {
-            run_files(rt, words.as_slice(), [collection, script, record])
-        }
-        words => run_words(rt, words),
-    }
+    let alloc = rt.alloc();
+    let words = words_of(alloc, env::args(rt))?;
+    let files = open_files(rt, paths_of(&words)?)?;
+    let mut collection = FileSource::new(files.collection);
+    let mut script = FileSource::new(files.script);
+    let mut tape = FileSink::new(files.tape);
+    let mut out = OutSink::new(rt.stdout());
+    let words = words.as_slice();
+    Ok(run_offline(
+        alloc,
+        words,
+        &mut collection,
+        &mut script,
+        &mut out,
+        &mut tape,
+    ))
 }
 
 fn main(rt: HostRuntime) -> ExitCode {

@@ -8,5 +8,7 @@ pub mod Pieces
 pub mod Pixels
 -- how runs go on and end
 pub mod Runs
+-- the words of a replay, each at its place
+pub mod Spoken
 -- which statuses are left
 pub mod Statuses

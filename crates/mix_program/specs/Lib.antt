@@ -4,5 +4,6 @@ pub mod Output
 pub mod PictureText
 pub mod Read
 pub mod Run
+pub mod Starting
 pub mod Within
 pub mod Words

@@ -3,6 +3,8 @@
 
 mod collection;
 mod running;
+mod starting;
 mod top;
 
+pub use starting::{Paths, Place, had, keep_apart, paths_of, words_of};
 pub use top::{Status, run_offline};
