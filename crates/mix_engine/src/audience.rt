@@ -119,9 +119,13 @@ impl Audience {
         ensures spare { self.new.spare ≡ self.old.spare }
         ensures err { OnErr result (self.new ≡ self.old) }
     {
-        let (session, hello) = Session::start(alloc, self.secret.as_ref(), challenge)?;
         self.members.reserve(1)?;
-        self.fanout.join(alloc, conn)?;
+        let (session, hello) = Session::start(alloc, self.secret.as_ref(), challenge)?;
+        let Ok(()) = self.fanout.join(alloc, conn) else {
+            drop(session);
+            drop(hello);
+            return Err(NoMemory);
+        };
         self.members.push_reserved(Member { conn, session });
         Ok(hello)
     }
@@ -138,6 +142,7 @@ impl Audience {
             mask,
         };
         enter(&mut self.members, conn, &heard);
+        drop(heard);
         self.fanout.set_mask(conn, mask);
     }
 
@@ -237,6 +242,8 @@ impl Audience {
     {
         if self.takes(conn, &event) {
             said.push_reserved(Said::Event(event));
+        } else {
+            drop(event);
         }
     }
 

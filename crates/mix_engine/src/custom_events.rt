@@ -30,7 +30,8 @@ pub fn broadcast_custom_event(
 {
     match custom_data(body) {
         Ok(fields) => {
-            twins.push(custom_event(alloc, fields)?)?;
+            twins.reserve(1)?;
+            twins.push_reserved(custom_event(alloc, fields)?);
             Ok(Ok(None))
         }
         Err(status) => Ok(Err(status)),
@@ -53,12 +54,13 @@ fn custom_event(alloc: Global, fields: &JsonObj) -> Result<Twin, NoMemory>
     ensures pair { IfOk result IsTwin }
     ensures value { IfOk result (λ twin. twin.queued ≡ CustomEvent fields.now) }
 {
+    let queued = fields.copy(alloc)?;
+    let Ok(told) = fields.copy(alloc) else {
+        drop(queued);
+        return Err(NoMemory);
+    };
     Ok(Twin {
-        queued: Event::CustomEvent {
-            fields: fields.copy(alloc)?,
-        },
-        told: Event::CustomEvent {
-            fields: fields.copy(alloc)?,
-        },
+        queued: Event::CustomEvent { fields: queued },
+        told: Event::CustomEvent { fields: told },
     })
 }

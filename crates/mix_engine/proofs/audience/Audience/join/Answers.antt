@@ -25,8 +25,8 @@ invariant_of-self-2 c =
       come_beside _ c.args.conn m c.self.inside.members.items _ c.self.inside.fanout.lanes _
           c.self.invariant.0 one
           (c.push_reserved.ensures.items ∙ ap (λ l. l ++ m ∷ []) c.in_ok-reserve.ensures.items)
-          c.in_ok-join.ensures.lanes,
-      c.in_ok-join.ensures.limit ∙ c.self.invariant.1,
+          c.in-Ok.ensures.lanes,
+      c.in-Ok.ensures.limit ∙ c.self.invariant.1,
     )
 
 -- and is the connection that comes
@@ -41,4 +41,4 @@ returns-clause-listeners c =
     c.self.invariant.0 one (new_one c.args.conn c.args.challenge.now m refl
     c.in_ok-session.ensures.challenge c.in_ok-session.ensures.mask)
     (c.push_reserved.ensures.items ∙ ap (λ l. l ++ m ∷ []) c.in_ok-reserve.ensures.items)
-    c.in_ok-join.ensures.lanes
+    c.in-Ok.ensures.lanes
