@@ -4,8 +4,8 @@ usage: hearing_cases.py TABLE FOLDER
 
 A line of TABLE has a situation (fresh, secret or identified), a message as it stands in a line of a
 script, and what is said to it there: lines with ⏎ between them, or `(nothing)`. Each situation and
-op is one case in FOLDER: every message of it comes from a connection of its own, which leaves where
-it wasn't closed. A message that needs what isn't built has a case of its own, which it ends.
+op is one case in FOLDER: every message of it comes from a connection of its own, which leaves
+where it wasn't closed. A message that needs what isn't built has a case of its own, which it ends.
 
 From the top of the repository
 

@@ -42,8 +42,8 @@ fn read_status(rt: &HostRuntime, folder: &str, name: &str) -> io::Result<u8> {
 }
 
 impl Case {
-    /// Reads the case of a name: `collection`, `script` and `output`, and, where they are there, the
-    /// bytes of `record` and the number of `status`.
+    /// Reads the case of a name: `collection`, `script` and `output`, and, where they are there,
+    /// the bytes of `record` and the number of `status`.
     pub fn read(rt: &HostRuntime, folder: &str, name: &str) -> io::Result<Case> {
         Ok(Case {
             collection: read_file(rt, folder, name, "collection")?,

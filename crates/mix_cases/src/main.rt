@@ -1,5 +1,5 @@
-//! Goes through the cases of a folder in order of their names, runs each, and says which are well and
-//! where another one differs.
+//! Goes through the cases of a folder in order of their names, runs each, and says which are well
+//! and where another one differs.
 #![tactic(auto)]
 
 mod case;

@@ -27,8 +27,8 @@ fn line_of(text: &[u8]) -> &[u8] {
     }
 }
 
-/// The line of a text that begins at a place, behind a word. Where the text has no line there, or no
-/// line feed behind it, this is said.
+/// The line with which a text begins, behind a word. Where the text has no line there, or no line
+/// feed behind it, this is said.
 fn say_line(text: &mut Vec<u8>, word: &str, rest: &[u8]) -> Result<(), AllocError> {
     let line = line_of(rest);
     say(text, word)?;

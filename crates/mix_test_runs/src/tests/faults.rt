@@ -23,7 +23,7 @@ fn a_collection_that_fails_at_any_read_gives_nothing(rt: HostRuntime) -> Result<
     expect_unread(rt.alloc(), 14, ANSWERS, 0)
 }
 
-/// A run of the first conversation whose script fails at one read: how much of the output it leaves.
+/// How much of the output a run of the first conversation leaves whose script fails at one read.
 fn count_unheard(alloc: Global, call: u64, status: u8) -> Result<usize, Fail> {
     let unheard = [call];
     let given = Given {

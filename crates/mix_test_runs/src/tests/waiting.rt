@@ -61,8 +61,8 @@ fn expect_waiting(alloc: Global, events: usize, lines: &[u8], last: &[u8]) -> Re
     result
 }
 
-/// With 4,096 waiting texts a connection is cut: it is told them, and closed. The one that sent them
-/// stays.
+/// With 4,096 waiting texts a connection is cut: it is told them, and closed. The one that sent
+/// them stays.
 #[test]
 fn four_thousand_waiting_texts(rt: HostRuntime) -> Result<(), Fail> {
     let lines = b"?c2\n?c1\n?c2\n";
