@@ -1,6 +1,4 @@
 //! Calls that make sources and items, and ask for holds, watches and frames.
-ghost use Rattle.std.specs.Prelude.{◌≡◌};
-
 use crate::answer::Answer;
 use crate::forms::Making;
 use crate::given::Given;
@@ -10,9 +8,7 @@ use mix_base::{ItemId, Name, Serial};
 use mix_graph::Graph;
 use mix_model::Kind;
 
-fn scene(graph: &mut Graph, text: &str) -> Answer
-    ensures keeps { graph.new.present.clock ≡ graph.old.present.clock }
-{
+fn scene(graph: &mut Graph, text: &str) -> Answer {
     if !has_room(graph, Serial(0)) {
         return Answer::Beyond;
     }
@@ -26,9 +22,7 @@ fn scene(graph: &mut Graph, text: &str) -> Answer
 }
 
 /// A group, which a plain item of the parent shows.
-fn group(graph: &mut Graph, text: &str, parent: Serial) -> Answer
-    ensures keeps { graph.new.present.clock ≡ graph.old.present.clock }
-{
+fn group(graph: &mut Graph, text: &str, parent: Serial) -> Answer {
     if !has_room(graph, parent) {
         return Answer::Beyond;
     }
@@ -42,9 +36,7 @@ fn group(graph: &mut Graph, text: &str, parent: Serial) -> Answer
 }
 
 /// A tone, which no item shows.
-fn tone(graph: &mut Graph, text: &str) -> Answer
-    ensures keeps { graph.new.present.clock ≡ graph.old.present.clock }
-{
+fn tone(graph: &mut Graph, text: &str) -> Answer {
     if !has_room(graph, Serial(0)) {
         return Answer::Beyond;
     }
@@ -58,9 +50,7 @@ fn tone(graph: &mut Graph, text: &str) -> Answer
 }
 
 /// A tone, which a plain item of the parent shows.
-fn shown_tone(graph: &mut Graph, text: &str, parent: Serial) -> Answer
-    ensures keeps { graph.new.present.clock ≡ graph.old.present.clock }
-{
+fn shown_tone(graph: &mut Graph, text: &str, parent: Serial) -> Answer {
     if !has_room(graph, parent) {
         return Answer::Beyond;
     }
@@ -75,9 +65,7 @@ fn shown_tone(graph: &mut Graph, text: &str, parent: Serial) -> Answer
 }
 
 /// A plain item on top of the parent, which shows the child.
-fn item(graph: &mut Graph, child: Serial, parent: Serial) -> Answer
-    ensures keeps { graph.new.present.clock ≡ graph.old.present.clock }
-{
+fn item(graph: &mut Graph, child: Serial, parent: Serial) -> Answer {
     if !has_room(graph, parent) {
         return Answer::Beyond;
     }
@@ -87,9 +75,7 @@ fn item(graph: &mut Graph, child: Serial, parent: Serial) -> Answer
     }
 }
 
-fn duplicate(graph: &mut Graph, item: ItemId, parent: Serial, to: Serial) -> Answer
-    ensures keeps { graph.new.present.clock ≡ graph.old.present.clock }
-{
+fn duplicate(graph: &mut Graph, item: ItemId, parent: Serial, to: Serial) -> Answer {
     if !has_room(graph, to) {
         return Answer::Beyond;
     }
@@ -99,9 +85,7 @@ fn duplicate(graph: &mut Graph, item: ItemId, parent: Serial, to: Serial) -> Ans
     }
 }
 
-fn hold(graph: &mut Graph, serial: Serial) -> Answer
-    ensures keeps { graph.new.present.clock ≡ graph.old.present.clock }
-{
+fn hold(graph: &mut Graph, serial: Serial) -> Answer {
     if graph.next_hold() >= 4000 {
         return Answer::Beyond;
     }
@@ -111,9 +95,7 @@ fn hold(graph: &mut Graph, serial: Serial) -> Answer
     }
 }
 
-fn watch(graph: &mut Graph, serial: Serial) -> Answer
-    ensures keeps { graph.new.present.clock ≡ graph.old.present.clock }
-{
+fn watch(graph: &mut Graph, serial: Serial) -> Answer {
     if graph.next_watch() >= 4000 {
         return Answer::Beyond;
     }
@@ -124,9 +106,7 @@ fn watch(graph: &mut Graph, serial: Serial) -> Answer
 }
 
 /// A frame of a number that isn't in flight.
-fn frame(graph: &mut Graph, number: u64) -> Answer
-    ensures keeps { graph.new.present.clock ≡ graph.old.present.clock }
-{
+fn frame(graph: &mut Graph, number: u64) -> Answer {
     if graph.release_frame(number).is_ok() {
         return Answer::Beyond;
     }
