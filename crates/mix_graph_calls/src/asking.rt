@@ -15,14 +15,6 @@ fn find(alloc: Global, graph: &Graph, name: &str) -> Answer {
     Answer::Maybe(found)
 }
 
-/// Since when a row is active.
-fn since(graph: &Graph, serial: Serial) -> Answer {
-    match graph.row(serial) {
-        Some(view) => Answer::Number(view.since),
-        None => Answer::Missing,
-    }
-}
-
 fn item_at(graph: &Graph, index: u32, parent: Serial) -> Answer {
     match graph.item_at(parent, index) {
         Some(item) => Answer::Item(item),
@@ -39,7 +31,6 @@ pub fn look(alloc: Global, graph: &Graph, looking: Looking, given: &Given<'_>) -
         Looking::IsShowing => Answer::Truth(graph.showing(serial)),
         Looking::IsNamed => Answer::Truth(graph.named(serial)),
         Looking::IsThere => Answer::Truth(graph.row(serial).is_some()),
-        Looking::Since => since(graph, serial),
         Looking::ItemAt => item_at(graph, given.numbers[0], given.second()),
         Looking::Items => Answer::Items(serial),
     }

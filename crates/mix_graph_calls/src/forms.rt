@@ -37,7 +37,7 @@ pub enum Ending {
     EndFrame,
 }
 
-/// A call on channels, the preview, and what an action is.
+/// A call on channels, the preview, and the beginning of an action.
 #[derive(Clone, Copy)]
 pub enum Showing {
     Rest,
@@ -47,7 +47,6 @@ pub enum Showing {
     Preview,
     ClearPreview,
     Begin,
-    Clock,
 }
 
 /// A question on one source or item.
@@ -58,7 +57,6 @@ pub enum Looking {
     IsShowing,
     IsNamed,
     IsThere,
-    Since,
     ItemAt,
     Items,
 }
@@ -101,7 +99,7 @@ pub enum Call {
 }
 
 /// The forms of lines: `#` stands for a number, `_` for a name.
-pub static FORMS: [(&str, Call); 53] = [
+pub static FORMS: [(&str, Call); 51] = [
     ("scene _", Call::Make(Making::Scene)),
     ("group _ in #", Call::Make(Making::Group)),
     ("tone _", Call::Make(Making::Tone)),
@@ -131,13 +129,11 @@ pub static FORMS: [(&str, Call); 53] = [
     ("put # on preview", Call::Show(Showing::Preview)),
     ("clear preview", Call::Show(Showing::ClearPreview)),
     ("begin", Call::Show(Showing::Begin)),
-    ("clock #", Call::Show(Showing::Clock)),
     ("find _", Call::Look(Looking::Find)),
     ("is # active", Call::Look(Looking::IsActive)),
     ("is # showing", Call::Look(Looking::IsShowing)),
     ("is # named", Call::Look(Looking::IsNamed)),
     ("is # there", Call::Look(Looking::IsThere)),
-    ("since #", Call::Look(Looking::Since)),
     ("item at # of #", Call::Look(Looking::ItemAt)),
     ("items of #", Call::Look(Looking::Items)),
     ("active", Call::Count(Counting::Active)),

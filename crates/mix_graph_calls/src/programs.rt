@@ -48,17 +48,6 @@ impl Stage {
         Answer::Done
     }
 
-    /// What has changed is told, and from now on it is this time.
-    fn tick(&mut self, clock: u64) -> Answer {
-        if clock < self.clock {
-            return Answer::Beyond;
-        }
-        self.graph.begin_changes();
-        self.graph.set_clock(clock);
-        self.clock = clock;
-        Answer::Done
-    }
-
     pub fn show(&mut self, showing: Showing, given: &Given<'_>) -> Answer {
         let [first, second, _] = given.numbers;
         match showing {
@@ -69,7 +58,6 @@ impl Stage {
             Showing::Preview => self.show_on_preview(given.source()),
             Showing::ClearPreview => self.clear_preview(),
             Showing::Begin => self.begin(),
-            Showing::Clock => self.tick(given.number()),
         }
     }
 }

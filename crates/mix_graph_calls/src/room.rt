@@ -12,24 +12,6 @@ use mix_base::Serial;
 use mix_graph::{Graph, ItemSpec};
 use mix_model::{Blend, Kind, Place, Settings};
 
-/// The place of an item that is asked to be nothing special.
-pub fn corner() -> Place
-    ensures { IsTrue (is_place result) }
-{
-    Place {
-        x: 0,
-        y: 0,
-        scale_x: 1,
-        scale_y: 1,
-        quarter: 0,
-        align: 5,
-        crop_left: 0,
-        crop_top: 0,
-        crop_right: 0,
-        crop_bottom: 0,
-    }
-}
-
 /// An item that is asked to be nothing special.
 pub fn plain() -> ItemSpec
     ensures { IsTrue (is_place result.place) }
@@ -37,9 +19,27 @@ pub fn plain() -> ItemSpec
     ItemSpec {
         enabled: true,
         locked: false,
-        place: corner(),
+        place: Place {
+            x: 0,
+            y: 0,
+            scale_x: 1,
+            scale_y: 1,
+            quarter: 0,
+            align: 5,
+            crop_left: 0,
+            crop_top: 0,
+            crop_right: 0,
+            crop_bottom: 0,
+        },
         blend: Blend::Normal,
     }
+}
+
+/// The place of an item that is asked to be nothing special.
+pub fn corner() -> Place
+    ensures { IsTrue (is_place result) }
+{
+    plain().place
 }
 
 /// A tone that is allowed.

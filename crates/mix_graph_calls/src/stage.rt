@@ -1,17 +1,13 @@
 //! The graph that a scenario plays on.
-ghost use Rattle.std.specs.Prelude.{◌≡◌};
-
 use mix_base::Limits;
 use mix_graph::Graph;
 use std::alloc::Global;
 use std::mem;
 
-/// A graph, and its clock, which the graph itself doesn't tell.
+/// A graph on which a scenario plays.
 #[derive(Drop)]
 pub struct Stage {
     pub graph: Graph,
-    pub clock: u64,
-    ghost told: { graph.present.clock ≡ clock },
 }
 
 impl Stage {
@@ -19,7 +15,6 @@ impl Stage {
     pub fn new(alloc: Global) -> Stage {
         Stage {
             graph: Graph::new(alloc, Limits::standard()),
-            clock: 0,
         }
     }
 

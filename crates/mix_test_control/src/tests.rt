@@ -3,6 +3,8 @@ mod conversations;
 mod copied;
 mod engines;
 mod fanouts;
+mod graphs;
 mod have;
 mod histories;
 mod masks;
+mod since;
