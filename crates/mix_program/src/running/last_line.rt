@@ -35,7 +35,11 @@ pub fn refuse<K: Sink>(alloc: Global, out: &mut K, number: u64) -> Ended
     ensures steady { result ≢ Ended.WriteFault → K.faults out.new ≡ K.faults out.old }
 {
     match format!(in alloc; "not built: line {number}\n") {
-        Ok(text) => finish(out, text.as_bytes(), Finished::NotBuilt),
+        Ok(text) => {
+            let ended = finish(out, text.as_bytes(), Finished::NotBuilt);
+            drop(text);
+            ended
+        }
         Err(_) => Ended::NoMemory,
     }
 }

@@ -44,12 +44,20 @@ fn put_text<K: Sink>(alloc: Global, out: &mut K, conn: ConnId, said: &Said) -> W
     let Ok(text) = said_text(alloc, said) else {
         return Wrote::NoMemory;
     };
-    let Ok(text) = escape(alloc, text.as_str()) else {
+    let escaped = escape(alloc, text.as_str());
+    drop(text);
+    let Ok(text) = escaped else {
         return Wrote::NoMemory;
     };
     let number = conn.0;
-    match format!(in alloc; ">c{number} {text}\n") {
-        Ok(line) => put(out, line.as_bytes()),
+    let line = format!(in alloc; ">c{number} {text}\n");
+    drop(text);
+    match line {
+        Ok(line) => {
+            let wrote = put(out, line.as_bytes());
+            drop(line);
+            wrote
+        }
         Err(_) => Wrote::NoMemory,
     }
 }
@@ -84,7 +92,11 @@ fn put_close<K: Sink>(alloc: Global, out: &mut K, conn: ConnId, code: u16) -> Wr
 {
     let number = conn.0;
     match format!(in alloc; "!c{number} {code}\n") {
-        Ok(line) => put(out, line.as_bytes()),
+        Ok(line) => {
+            let wrote = put(out, line.as_bytes());
+            drop(line);
+            wrote
+        }
         Err(_) => Wrote::NoMemory,
     }
 }
@@ -100,7 +112,11 @@ fn put_gone<K: Sink>(alloc: Global, out: &mut K, conn: ConnId) -> Wrote
 {
     let number = conn.0;
     match format!(in alloc; "!c{number} gone\n") {
-        Ok(line) => put(out, line.as_bytes()),
+        Ok(line) => {
+            let wrote = put(out, line.as_bytes());
+            drop(line);
+            wrote
+        }
         Err(_) => Wrote::NoMemory,
     }
 }
@@ -116,7 +132,11 @@ fn put_left<K: Sink>(alloc: Global, out: &mut K, conn: ConnId) -> Wrote
 {
     let number = conn.0;
     match format!(in alloc; "-c{number}\n") {
-        Ok(line) => put(out, line.as_bytes()),
+        Ok(line) => {
+            let wrote = put(out, line.as_bytes());
+            drop(line);
+            wrote
+        }
         Err(_) => Wrote::NoMemory,
     }
 }
@@ -158,8 +178,14 @@ fn put_frame<K: Sink>(
     let Ok(picture) = paint(alloc, shot, number, canvas) else {
         return Wrote::NoMemory;
     };
-    match frame_line(alloc, number, &picture) {
-        Ok(line) => put(out, line.as_bytes()),
+    let line = frame_line(alloc, number, &picture);
+    drop(picture);
+    match line {
+        Ok(line) => {
+            let wrote = put(out, line.as_bytes());
+            drop(line);
+            wrote
+        }
         Err(_) => Wrote::NoMemory,
     }
 }
@@ -173,7 +199,11 @@ fn put_frame_gone<K: Sink>(alloc: Global, out: &mut K, number: u64) -> Wrote
     ensures steady { result ≢ Wrote.WriteFault → K.faults out.new ≡ K.faults out.old }
 {
     match format!(in alloc; "f {number}\n") {
-        Ok(line) => put(out, line.as_bytes()),
+        Ok(line) => {
+            let wrote = put(out, line.as_bytes());
+            drop(line);
+            wrote
+        }
         Err(_) => Wrote::NoMemory,
     }
 }
