@@ -38,6 +38,11 @@ abbrev pub TellsEffect : List Twin → Result Effect ℕ → Type 0
 TellsEffect twins (Err status) = twins ≡ []
 TellsEffect twins (Ok effect) = Tells twins effect.events × (length twins ≤ most_events)
 
+-- the pairs of a line of the table; none where there is no line
+abbrev pub TellsLine : List Twin → Option (Result Effect ℕ) → Type 0
+TellsLine twins None = twins ≡ []
+TellsLine twins (Some effect) = TellsEffect twins effect
+
 -- the pairs of what a request comes to; none where nothing was done
 abbrev pub TellsRequested : List Twin → Option Requested → Type 0
 TellsRequested twins None = twins ≡ []

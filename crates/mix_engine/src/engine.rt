@@ -71,17 +71,22 @@ impl Engine {
         requires limits { IsTrue (are_limits setup.limits) }
         ensures value { IfOk result (λ engine. engine ≡ engine_of setup) }
     {
-        match Mixing::open(alloc, &setup.collection)? {
-            None => Ok(None),
-            Some(mixing) => Ok(Some(Engine {
-                setup,
-                mixing,
-                journal: Vec::new(alloc),
-                shelf: Shelf::new(alloc),
-                bytes: 0,
-                full: None,
-            })),
-        }
+        let Ok(opened) = Mixing::open(alloc, &setup.collection) else {
+            drop(setup);
+            return Err(NoMemory);
+        };
+        let Some(mixing) = opened else {
+            drop(setup);
+            return Ok(None);
+        };
+        Ok(Some(Engine {
+            setup,
+            mixing,
+            journal: Vec::new(alloc),
+            shelf: Shelf::new(alloc),
+            bytes: 0,
+            full: None,
+        }))
     }
 
     /// Does one action. None where it isn't built: then nothing is done. At `Err` nothing is done
@@ -104,14 +109,22 @@ impl Engine {
     {
         let line = line_length(&action);
         if !self.has_room(line) {
+            drop(action);
             return Err(self.refuse(line));
         }
         let Ok(()) = self.journal.reserve(1) else {
+            drop(action);
             return Err(ActFault::NoMemory);
         };
         match self.mixing.act(alloc, &action) {
-            Err(_) => Err(ActFault::NoMemory),
-            Ok(None) => Ok(None),
+            Err(_) => {
+                drop(action);
+                Err(ActFault::NoMemory)
+            }
+            Ok(None) => {
+                drop(action);
+                Ok(None)
+            }
             Ok(Some(spoken)) => {
                 self.bytes += line;
                 let action = shelved(&mut self.shelf, action);

@@ -48,7 +48,10 @@ impl Mixing {
         }
         let shot = self.shot(alloc)?;
         let number = self.clock;
-        take_frame(&mut self.graph, number)?;
+        let Ok(()) = take_frame(&mut self.graph, number) else {
+            drop(shot);
+            return Err(NoMemory);
+        };
         self.clock += 1;
         self.audience.end(None);
         Ok(Spoken {
@@ -66,14 +69,23 @@ impl Mixing {
         ensures shows { IfOk result
             (λ shot. Shows self.now.mixer.studio self.now.mixer.studio.graph.clock shot) }
     {
-        let program = [self.still.program];
-        let sides = self.sides(alloc)?;
+        let from = plan(alloc, &self.graph, &[self.still.program], self.still.canvas)?;
+        let Ok(sides) = self.sides(alloc) else {
+            drop(from);
+            return Err(NoMemory);
+        };
+        let over = plan(alloc, &self.graph, sides.as_slice(), self.still.canvas);
+        drop(sides);
+        let Ok(over) = over else {
+            drop(from);
+            return Err(NoMemory);
+        };
         Ok(Shot {
-            from: plan(alloc, &self.graph, &program, self.still.canvas)?,
+            from,
             to: None,
             t: 0,
             n: 1,
-            over: plan(alloc, &self.graph, sides.as_slice(), self.still.canvas)?,
+            over,
         })
     }
 

@@ -10,7 +10,8 @@ ghost use Rattle.mix_model.specs.declared.event.Event.TheVariants as event;
 ghost use Rattle.mix_sources.specs.Written.{object_of};
 
 use crate::input_made::InputMade;
-use mix_base::{ItemId, JsonObj, Name, NoMemory, Serial, uuid_text};
+use crate::scenes::with_uuid;
+use mix_base::{ItemId, JsonObj, Name, NoMemory, Serial};
 use mix_graph::Graph;
 use mix_json::Fields;
 use mix_model::{Event, Twin};
@@ -32,11 +33,8 @@ pub fn made_answer(alloc: Global, serial: Serial, item: ItemId) -> Result<JsonOb
     requires serial { serial < 2 ^ 48 }
     ensures value { IfOk result (λ fields. fields ≡ obj_of (made_fields serial item)) }
 {
-    let uuid = uuid_text(alloc, serial)?;
-    let fields = Fields::new(alloc)
-        .text("inputUuid", uuid.as_str())?
-        .int("sceneItemId", i64::from(item.0))?;
-    Ok(fields.into_obj())
+    let fields = with_uuid(alloc, Fields::new(alloc), "inputUuid", serial)?;
+    Ok(fields.int("sceneItemId", i64::from(item.0))?.into_obj())
 }
 
 /// The event of a new input.
@@ -47,7 +45,10 @@ pub fn input_created(alloc: Global, made: &InputMade, serial: Serial) -> Result<
         ≡ event.InputCreated made.now.kind (object_of made.now.settings) made.now.name serial) }
 {
     let queued = settings_json(alloc, &made.settings)?;
-    let told = settings_json(alloc, &made.settings)?;
+    let Ok(told) = settings_json(alloc, &made.settings) else {
+        drop(queued);
+        return Err(NoMemory);
+    };
     Ok(Twin {
         queued: Event::InputCreated {
             kind: made.kind,

@@ -25,7 +25,7 @@ use crate::sought::scene_sought;
 use mix_base::{Json, JsonObj, NoMemory, Serial, Text};
 use mix_graph::Graph;
 use mix_model::{Blend, Body, GraphFault, ItemSpec, Kind, Settings, Twin};
-use mix_sources::{SettingFault, check_settings, kind_of};
+use mix_sources::{BadSetting, SettingFault, check_settings, kind_of};
 use std::alloc::Global;
 
 /// Makes an input with its item, or gives the status that refuses it.
@@ -58,7 +58,11 @@ pub fn create_input(
     ensures err { OnErr result (graph.new.present ≡ graph.old.present) }
 {
     match asked_in(body) {
-        Ok(asked) => create_asked(alloc, graph, still, &asked, twins),
+        Ok(asked) => {
+            let answer = create_asked(alloc, graph, still, &asked, twins);
+            drop(asked);
+            answer
+        }
         Err(status) => Ok(Err(status)),
     }
 }
@@ -164,10 +168,14 @@ fn new_settings(
         (λ found. IfOk found (λ settings. IsTrue (are_settings kind settings))) }
 {
     let none = JsonObj::new(alloc);
-    let given = given.unwrap_or(&none);
-    match check_settings(alloc, kind, &Settings::None, given, canvas) {
+    let checked = check_settings(alloc, kind, &Settings::None, given.unwrap_or(&none), canvas);
+    drop(none);
+    match checked {
         Ok(settings) => Ok(Ok(settings)),
-        Err(SettingFault::Bad(bad)) => Ok(Err(bad.status)),
+        Err(SettingFault::Bad(BadSetting { key, status })) => {
+            drop(key);
+            Ok(Err(status))
+        }
         Err(SettingFault::NoMemory) => Err(NoMemory),
     }
 }
@@ -204,10 +212,20 @@ fn make_input(
 {
     let serial = graph.next_serial();
     let item = next_item(graph, made.parent);
-    let answer = made_answer(alloc, serial, item)?;
-    let input = input_created(alloc, &made, serial)?;
+    let Ok(()) = twins.reserve(2) else {
+        drop(made);
+        return Err(NoMemory);
+    };
+    let Ok(answer) = made_answer(alloc, serial, item) else {
+        drop(made);
+        return Err(NoMemory);
+    };
+    let Ok(input) = input_created(alloc, &made, serial) else {
+        drop(made);
+        drop(answer);
+        return Err(NoMemory);
+    };
     let shown = item_created(graph, &made, item, serial);
-    twins.reserve(2)?;
     match add_input(graph, made) {
         Ok(_) => {
             twins.push_reserved(input);
@@ -215,6 +233,9 @@ fn make_input(
             Ok(Ok(Some(Json::Obj(answer))))
         }
         Err(fault) => {
+            drop(answer);
+            drop(input);
+            drop(shown);
             if is_want(fault) {
                 return Err(NoMemory);
             }

@@ -151,7 +151,11 @@ impl Mixing {
         }
         let conn = ConnId(self.next_conn);
         let mut said = Vec::with_capacity(alloc, 1)?;
-        said.push_reserved(self.audience.join(alloc, conn, challenge)?);
+        let Ok(hello) = self.audience.join(alloc, conn, challenge) else {
+            drop(said);
+            return Err(NoMemory);
+        };
+        said.push_reserved(hello);
         self.audience.end(Some(conn));
         self.next_conn += 1;
         Ok(Some(Spoken {
@@ -271,7 +275,10 @@ impl Mixing {
         match heard {
             Heard::Say { said, mask } => self.say(alloc, conn, said, mask),
             Heard::Ask(ask) => self.ask(alloc, conn, ask),
-            Heard::Batch(_) => Ok(None),
+            Heard::Batch(batch) => {
+                drop(batch);
+                Ok(None)
+            }
             Heard::Close(code) => self.close(alloc, conn, code),
         }
     }
@@ -333,9 +340,13 @@ impl Mixing {
         ensures err { OnErr result (self.new ≡ self.old) }
     {
         if !is_deaf(mask) {
+            drop(said);
             return Ok(None);
         }
-        let mut all = self.audience.waiting(alloc, conn, 1)?;
+        let Ok(mut all) = self.audience.waiting(alloc, conn, 1) else {
+            drop(said);
+            return Err(NoMemory);
+        };
         all.push_reserved(said);
         self.audience.identify(conn, mask);
         self.audience.end(Some(conn));
@@ -365,20 +376,38 @@ impl Mixing {
             ItemsWithin (n + 1) self.new.mixer.studio.graph }
         ensures err { OnErr result (self.new ≡ self.old) }
     {
-        let mut said = self.audience.waiting(alloc, conn, MOST_EVENTS + 1)?;
-        self.audience.reserve(MOST_EVENTS)?;
-        let mut twins = Vec::new(alloc);
-        let Some(done) = answer(alloc, &mut self.graph, &mut self.still, ask, &mut twins)? else {
-            return Ok(None);
+        let Ok(mut said) = self.audience.waiting(alloc, conn, MOST_EVENTS + 1) else {
+            drop(ask);
+            return Err(NoMemory);
         };
-        self.audience.tell(conn, twins, &mut said);
-        said.push_reserved(Said::Response(done));
-        self.audience.end(Some(conn));
-        Ok(Some(Spoken {
-            own: Own::Told { conn },
-            said,
-            shot: None,
-        }))
+        let Ok(()) = self.audience.reserve(MOST_EVENTS) else {
+            drop(ask);
+            drop(said);
+            return Err(NoMemory);
+        };
+        let mut twins = Vec::new(alloc);
+        match answer(alloc, &mut self.graph, &mut self.still, ask, &mut twins) {
+            Err(_) => {
+                drop(said);
+                drop(twins);
+                Err(NoMemory)
+            }
+            Ok(None) => {
+                drop(said);
+                drop(twins);
+                Ok(None)
+            }
+            Ok(Some(done)) => {
+                self.audience.tell(conn, twins, &mut said);
+                said.push_reserved(Said::Response(done));
+                self.audience.end(Some(conn));
+                Ok(Some(Spoken {
+                    own: Own::Told { conn },
+                    said,
+                    shot: None,
+                }))
+            }
+        }
     }
 }
 

@@ -44,7 +44,10 @@ impl Mixing {
             return Ok(None);
         };
         graph.has_shape();
-        let secret = secret_in(&collection.secret)?;
+        let Ok(secret) = secret_in(&collection.secret) else {
+            drop(graph);
+            return Err(NoMemory);
+        };
         Ok(Some(Mixing {
             graph,
             still: still_of(collection, program),
@@ -91,7 +94,12 @@ fn open_lines(alloc: Global, lines: &[Line]) -> Result<Option<Graph>, NoMemory>
 {
     let mut graph = Graph::new(alloc, Limits::standard());
     for line in lines {
-        if !add_line(alloc, &mut graph, line)? {
+        let Ok(added) = add_line(alloc, &mut graph, line) else {
+            drop(graph);
+            return Err(NoMemory);
+        };
+        if !added {
+            drop(graph);
             return Ok(None);
         }
     }
@@ -197,7 +205,9 @@ fn serial_named(alloc: Global, graph: &Graph, name: &Name) -> Result<Serial, NoM
     ensures value { IfOk result (λ serial. serial ≡ serial_named graph.now.present name.now) }
 {
     let name = Text::from_str(alloc, name.as_str())?;
-    Ok(graph.find(&name).unwrap_or(Serial(0)))
+    let serial = graph.find(&name).unwrap_or(Serial(0));
+    drop(name);
+    Ok(serial)
 }
 
 /// Channel 0 is given the scene of this name; none where it is refused.
@@ -206,13 +216,20 @@ fn on_program(alloc: Global, graph: Graph, name: &Name) -> Result<Option<(Graph,
     ensures value { IfOk result (λ made. OpensProgram made graph.present name.now) }
 {
     let mut graph = graph;
-    let program = serial_named(alloc, &graph, name)?;
+    let Ok(program) = serial_named(alloc, &graph, name) else {
+        drop(graph);
+        return Err(NoMemory);
+    };
     if !is_scene_row(&graph, program) {
+        drop(graph);
         return Ok(None);
     }
     match graph.set_channel(0, Some(program), None) {
         Ok(()) => Ok(Some((graph, program))),
-        Err(_) => Ok(None),
+        Err(_) => {
+            drop(graph);
+            Ok(None)
+        }
     }
 }
 

@@ -73,13 +73,23 @@ fn with_program(
 }
 
 /// With the UUID of a source.
-fn with_uuid(alloc: Global, fields: Fields, key: &str, serial: Serial) -> Result<Fields, NoMemory>
+pub fn with_uuid(
+    alloc: Global,
+    fields: Fields,
+    key: &str,
+    serial: Serial,
+) -> Result<Fields, NoMemory>
     requires serial { serial < 2 ^ 48 }
     ensures value { IfOk result
         (λ all. all ≡ with_field key.now (json.Text (uuid_of serial)) fields) }
 {
-    let text = uuid_text(alloc, serial)?;
-    fields.text(key, text.as_str())
+    let Ok(text) = uuid_text(alloc, serial) else {
+        drop(fields);
+        return Err(NoMemory);
+    };
+    let fields = fields.text(key, text.as_str());
+    drop(text);
+    fields
 }
 
 /// With all scenes.
@@ -89,7 +99,11 @@ fn with_scenes(alloc: Global, fields: Fields, graph: &Graph) -> Result<Fields, N
     ensures value { IfOk result
         (λ all. all ≡ put_fields (scenes_fields graph.now.present) fields) }
 {
-    fields.list("scenes", scene_entries(alloc, graph)?)
+    let Ok(entries) = scene_entries(alloc, graph) else {
+        drop(fields);
+        return Err(NoMemory);
+    };
+    fields.list("scenes", entries)
 }
 
 /// The name of a row.
@@ -113,7 +127,14 @@ fn scene_entries(alloc: Global, graph: &Graph) -> Result<Items, NoMemory>
     let mut items = Items::new(alloc);
     let mut index = 0;
     'scenes: while let Some(serial) = graph.scene_at(index) {
-        items.push_obj(scene_entry(alloc, graph, index, serial)?)?;
+        let Ok(entry) = scene_entry(alloc, graph, index, serial) else {
+            drop(items);
+            return Err(NoMemory);
+        };
+        let Ok(()) = items.push_obj(entry) else {
+            drop(items);
+            return Err(NoMemory);
+        };
         index += 1;
     }
     Ok(items)
@@ -125,10 +146,10 @@ fn scene_entry(alloc: Global, graph: &Graph, index: u32, serial: Serial) -> Resu
     ensures value { IfOk result (λ fields. fields
         ≡ obj_of (entry_fields graph.now.present index serial)) }
 {
-    Fields::new(alloc)
+    let fields = Fields::new(alloc)
         .int("sceneIndex", i64::from(index))?
-        .text("sceneName", name_at(graph, serial))?
-        .text("sceneUuid", uuid_text(alloc, serial)?.as_str())
+        .text("sceneName", name_at(graph, serial))?;
+    with_uuid(alloc, fields, "sceneUuid", serial)
 }
 
 /// The name that a scene is to get.
@@ -216,18 +237,28 @@ fn make_scene(
     ensures grows { graph.new.present.next_serial ≤ graph.old.present.next_serial + 1 }
     ensures err { OnErr result (graph.new.present ≡ graph.old.present) }
 {
-    let answer = scene_answer(alloc, graph.next_serial())?;
+    let Ok(()) = twins.reserve(1) else {
+        drop(name);
+        return Err(NoMemory);
+    };
+    let Ok(answer) = scene_answer(alloc, graph.next_serial()) else {
+        drop(name);
+        return Err(NoMemory);
+    };
     let twin = scene_created(&name, graph.next_serial());
-    twins.reserve(1)?;
     match add_scene(graph, name) {
         Ok(_) => {
             twins.push_reserved(twin);
             Ok(Ok(Some(Json::Obj(answer))))
         }
-        Err(fault) => match refusal(fault) {
-            Some(status) => Ok(Err(status)),
-            None => Err(NoMemory),
-        },
+        Err(fault) => {
+            drop(answer);
+            drop(twin);
+            match refusal(fault) {
+                Some(status) => Ok(Err(status)),
+                None => Err(NoMemory),
+            }
+        }
     }
 }
 
@@ -268,8 +299,7 @@ fn scene_answer(alloc: Global, serial: Serial) -> Result<JsonObj, NoMemory>
     requires serial { serial < 2 ^ 48 }
     ensures value { IfOk result (λ fields. fields ≡ obj_of (creation_fields serial)) }
 {
-    let uuid = uuid_text(alloc, serial)?;
-    let fields = Fields::new(alloc).text("sceneUuid", uuid.as_str())?;
+    let fields = with_uuid(alloc, Fields::new(alloc), "sceneUuid", serial)?;
     Ok(fields.into_obj())
 }
 

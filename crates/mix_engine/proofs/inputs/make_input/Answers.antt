@@ -16,37 +16,37 @@ item_created-shown-requires c = record {
 }
 
 -- an input that is made: its answer, what it leaves, and its two events
-pub returns-in-Ok-clause-reply : goal.returns-in-Ok-clause-reply
-returns-in-Ok-clause-reply c =
+pub returns-in-Ok-add_input-clause-reply : goal.returns-in-Ok-add_input-clause-reply
+returns-in-Ok-add_input-clause-reply c =
     made_answer (studio_of c.args.still c.args.graph.now.present) no_notes c.args.made
-    c.requires.shape.sources c.requires.makeable c.in-Ok.ensures.refused
+    c.requires.shape.sources c.requires.makeable c.in-Ok-add_input.ensures.refused
     c.next_serial-serial.result c.next_item-item.result c.next_serial-serial.ensures.reply
-    c.next_item-item.ensures.value _ c.in_ok-answer.ensures.value
+    c.next_item-item.ensures.value _ c.in-Ok-made_answer.ensures.value
 
-pub returns-in-Ok-clause-state : goal.returns-in-Ok-clause-state
-returns-in-Ok-clause-state c =
+pub returns-in-Ok-add_input-clause-state : goal.returns-in-Ok-add_input-clause-state
+returns-in-Ok-add_input-clause-state c =
     made_studio (studio_of c.args.still c.args.graph.now.present) no_notes c.args.made
-    c.requires.shape.sources c.requires.makeable c.in-Ok.ensures.refused
-    c.add_input.new.graph.present c.in-Ok.ensures.ok
+    c.requires.shape.sources c.requires.makeable c.in-Ok-add_input.ensures.refused
+    c.add_input.new.graph.present c.in-Ok-add_input.ensures.ok
 
-pub returns-in-Ok-clause-tells : goal.returns-in-Ok-clause-tells
-returns-in-Ok-clause-tells c =
+pub returns-in-Ok-add_input-clause-tells : goal.returns-in-Ok-add_input-clause-tells
+returns-in-Ok-add_input-clause-tells c =
     let g = c.args.graph.now.present in
     made_told (studio_of c.args.still g) no_notes c.args.made
-    c.requires.shape.sources c.requires.makeable c.in-Ok.ensures.refused
+    c.requires.shape.sources c.requires.makeable c.in-Ok-add_input.ensures.refused
     c.next_serial-serial.result c.next_item-item.result c.next_serial-serial.ensures.reply
-    c.next_item-item.ensures.value c.push_reserved-in-Ok.new.self.items c.in_ok-input.input
+    c.next_item-item.ensures.value c.push_reserved-in-Ok-add_input.new.self.items c.in-Ok-input_created.input
     c.item_created-shown.result
-    (only_two _ _ _ _ _ _ c.requires.empty c.in_ok-reserve.ensures.items
-    c.push_reserved.ensures.items c.push_reserved-in-Ok.ensures.items)
-    c.in_ok-input.ensures.pair c.item_created-shown.ensures.pair c.in_ok-input.ensures.value
-    c.item_created-shown.ensures.value c.in_ok-input.ensures.whole
+    (only_two _ _ _ _ _ _ c.requires.empty c.in-Ok.ensures.items
+    c.push_reserved.ensures.items c.push_reserved-in-Ok-add_input.ensures.items)
+    c.in-Ok-input_created.ensures.pair c.item_created-shown.ensures.pair c.in-Ok-input_created.ensures.value
+    c.item_created-shown.ensures.value c.in-Ok-input_created.ensures.whole
     (scene_short g c.requires.scenes c.requires.serial c.args.made.parent
     c.requires.makeable.parent) (omega arith)
 
-pub returns-in-Ok-clause-shape : goal.returns-in-Ok-clause-shape
-returns-in-Ok-clause-shape c = shape_kept c.args.still c.args.graph.now.present _
-    c.in-Ok.ensures.keeps c.requires.shape
+pub returns-in-Ok-add_input-clause-shape : goal.returns-in-Ok-add_input-clause-shape
+returns-in-Ok-add_input-clause-shape c = shape_kept c.args.still c.args.graph.now.present _
+    c.in-Ok-add_input.ensures.keeps c.requires.shape
 
 -- one that is refused
 pub returns-else-is_want-clause-reply : goal.returns-else-is_want-clause-reply
@@ -66,4 +66,4 @@ pub returns-else-is_want-clause-tells : goal.returns-else-is_want-clause-tells
 returns-else-is_want-clause-tells c =
     refused_told (studio_of c.args.still c.args.graph.now.present) no_notes c.args.made
     c.requires.shape.sources c.requires.makeable c.in-Err.fault c.if-is_want.ensures.value
-    c.in-Err.ensures.refused _ (c.in_ok-reserve.ensures.items ∙ c.requires.empty)
+    c.in-Err.ensures.refused _ (c.in-Ok.ensures.items ∙ c.requires.empty)

@@ -14,9 +14,9 @@ loop-line-init c = record {
 }
 
 -- a line that isn't built, or is refused
-pub returns-then-not-branch : goal.returns-then-not-branch
-returns-then-not-branch c = record {
+pub returns-then-not-added : goal.returns-then-not-added
+returns-then-not-added c = record {
   value = stopped_at c.args.lines.now c.loop-line.graph.present c.loop-line.line-index _ _ _
       (search rules) c.line-item.is c.loop-line.invariant.built c.loop-line.invariant.done
-      c.if-not-branch.true c.in_ok-add_line.ensures.added;
+      c.if-not-added.true c.in-Ok.ensures.added;
 }

@@ -12,16 +12,16 @@ use Rattle.mix_engine.proofs.TellingLemmas.{only_one}
 use Rattle.mix_engine.proofs.scenes.make_scene.Goals as goal
 
 -- a scene that is made: its answer, and what it leaves
-pub returns-in-Ok-clause-reply : goal.returns-in-Ok-clause-reply
-returns-in-Ok-clause-reply c =
+pub returns-in-Ok-add_scene-clause-reply : goal.returns-in-Ok-add_scene-clause-reply
+returns-in-Ok-add_scene-clause-reply c =
     made_answer (studio_of c.args.still c.args.graph.now.present) no_notes c.args.name _
-    c.in-Ok.ensures.refused (c.in_ok-answer.ensures.value
+    c.in-Ok-add_scene.ensures.refused (c.in-Ok-scene_answer.ensures.value
     ∙ ap (λ n. obj_of (creation_fields n)) c.next_serial.ensures.reply)
 
-pub returns-in-Ok-clause-state : goal.returns-in-Ok-clause-state
-returns-in-Ok-clause-state c =
+pub returns-in-Ok-add_scene-clause-state : goal.returns-in-Ok-add_scene-clause-state
+returns-in-Ok-add_scene-clause-state c =
     made_studio (studio_of c.args.still c.args.graph.now.present) no_notes c.args.name _
-    c.in-Ok.ensures.refused c.in-Ok.ensures.ok
+    c.in-Ok-add_scene.ensures.refused c.in-Ok-add_scene.ensures.ok
 
 -- one that is refused
 pub returns-in-Some-clause-reply : goal.returns-in-Some-clause-reply
@@ -38,11 +38,11 @@ returns-in-Some-clause-state c =
     c.in-Err.ensures.refused c.in-Some.ensures.value)
 
 -- the event of one that is made
-pub returns-in-Ok-clause-tells : goal.returns-in-Ok-clause-tells
-returns-in-Ok-clause-tells c =
+pub returns-in-Ok-add_scene-clause-tells : goal.returns-in-Ok-add_scene-clause-tells
+returns-in-Ok-add_scene-clause-tells c =
     made_tells (studio_of c.args.still c.args.graph.now.present) no_notes c.args.name _ _
-    c.in-Ok.ensures.refused
-    (only_one _ _ _ _ c.requires.empty c.in_ok-reserve.ensures.items c.push_reserved.ensures.items)
+    c.in-Ok-add_scene.ensures.refused
+    (only_one _ _ _ _ c.requires.empty c.in-Ok.ensures.items c.push_reserved.ensures.items)
     c.scene_created-twin.ensures.pair
     (c.scene_created-twin.ensures.value
     ∙ ap (SceneCreated c.args.name) c.next_serial-2.ensures.reply)
@@ -54,17 +54,13 @@ returns-in-Some-clause-tells c =
     let s = studio_of c.args.still c.args.graph.now.present in
     refused_tells _ _ _ (refused_by s no_notes c.args.name c.in-Err.fault _
     c.in-Err.ensures.refused c.in-Some.ensures.value)
-    (c.in_ok-reserve.ensures.items ∙ c.requires.empty)
+    (c.in-Ok.ensures.items ∙ c.requires.empty)
 
 -- the studio keeps its shape
-pub returns-in-Ok-clause-shape : goal.returns-in-Ok-clause-shape
-returns-in-Ok-clause-shape c = shape_kept c.args.still c.args.graph.now.present _
-    c.in-Ok.ensures.keeps c.requires.shape
+pub returns-in-Ok-add_scene-clause-shape : goal.returns-in-Ok-add_scene-clause-shape
+returns-in-Ok-add_scene-clause-shape c = shape_kept c.args.still c.args.graph.now.present _
+    c.in-Ok-add_scene.ensures.keeps c.requires.shape
 
 pub returns-in-Some-clause-shape : goal.returns-in-Some-clause-shape
 returns-in-Some-clause-shape c = shape_kept c.args.still c.args.graph.now.present _
     c.in-Err.ensures.keeps c.requires.shape
-
-pub returns-clause-shape : goal.returns-clause-shape
-returns-clause-shape c = shape_kept c.args.still c.args.graph.now.present _
-    c.add_scene.ensures.keeps c.requires.shape

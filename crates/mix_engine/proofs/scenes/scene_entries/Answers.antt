@@ -7,7 +7,7 @@ pub scenes-preserved : goal.scenes-preserved
 scenes-preserved c = record {
   entries = entries_more c.args.graph.now.present c.args.graph.now.present.scenes c.scenes.index
       c.in-Some.serial _ _ _ (sym c.in-Some.ensures.reply)
-      (pushed _ _ _ _ c.in_ok-push_obj.ensures.ok c.in_ok-scene_entry.ensures.value)
+      (pushed _ _ _ _ c.in-Ok-push_obj.ensures.ok c.in-Ok.ensures.value)
       c.scenes.invariant.entries;
   within = within_more c.args.graph.now.present.scenes c.scenes.index c.in-Some.serial
       (sym c.in-Some.ensures.reply);

@@ -16,23 +16,23 @@ opens setup made is same value =
 -- nothing was done yet
 pub invariant_of-result : goal.invariant_of-result
 invariant_of-result c = opening_replayed c.args.setup c.in-Some.mixing c.new.result.items
-    c.new.ensures.items (opens c.args.setup _ _ c.in-Some.is c.in_ok-open.ensures.value)
-    (rw c.in-Some.is at c.in_ok-open.ensures.nobody)
-    (rw c.in-Some.is at c.in_ok-open.ensures.conns)
-    (rw c.in-Some.is at c.in_ok-open.ensures.serials)
-    (rw c.in-Some.is at c.in_ok-open.ensures.clock)
-    (rw c.in-Some.is at c.in_ok-open.ensures.items) c.requires.limits
+    c.new.ensures.items (opens c.args.setup _ _ c.in-Some.is c.in-Ok.ensures.value)
+    (rw c.in-Some.is at c.in-Ok.ensures.nobody)
+    (rw c.in-Some.is at c.in-Ok.ensures.conns)
+    (rw c.in-Some.is at c.in-Ok.ensures.serials)
+    (rw c.in-Some.is at c.in-Ok.ensures.clock)
+    (rw c.in-Some.is at c.in-Ok.ensures.items) c.requires.limits
 
 -- the collection can't be opened
-pub returns-in-None : goal.returns-in-None
-returns-in-None c = record {
+pub returns-in_default-opened : goal.returns-in_default-opened
+returns-in_default-opened c = record {
   value = engine_unopened c.args.setup
-      (opens c.args.setup _ _ c.in-None.is c.in_ok-open.ensures.value);
+      (opens c.args.setup _ _ c.in_default-opened.is c.in-Ok.ensures.value);
 }
 
 -- it is opened
-pub returns-in-Some : goal.returns-in-Some
-returns-in-Some c = record {
+pub returns : goal.returns
+returns c = record {
   value = engine_opened c.args.setup c.in-Some.mixing.mixer c.new.result.items
-      c.new.ensures.items (opens c.args.setup _ _ c.in-Some.is c.in_ok-open.ensures.value);
+      c.new.ensures.items (opens c.args.setup _ _ c.in-Some.is c.in-Ok.ensures.value);
 }

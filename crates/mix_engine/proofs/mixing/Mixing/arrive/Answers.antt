@@ -30,7 +30,7 @@ join-requires c = record {
 
 pub invariant_of-self-2 : goal.invariant_of-self-2
 invariant_of-self-2 c = joined_mixing _ _ _ c.self.inside.audience.listeners _ c.self.invariant
-    (Some c.self.inside.next_conn) c.args.challenge.now _ _ c.in_ok-join.ensures.listeners
+    (Some c.self.inside.next_conn) c.args.challenge.now _ _ c.in-Ok.ensures.listeners
     c.end-2.ensures.listeners
 
 -- it is told Hello
@@ -39,8 +39,8 @@ returns-clause-reply c = speaks c.args.self.now.listeners c.args.self.now.mixer.
     (arrives c.args.self.now.mixer c.args.challenge.now
     (has_place _ _ _ _ _ _ c.self.view_is true (lt-ltb _ _ (omega arith))))
     (says_hello _ _ _ _ _ _ c.self.view_is _ c.args.challenge.now
-    c.in_ok-join.field-0 c.in_ok-said.said.items c.self.invariant.listeners_are refl
-    c.in_ok-said.ensures.items c.in_ok-join.ensures.hello c.push_reserved.ensures.items refl)
+    c.in-Ok.hello c.in_ok-said.said.items c.self.invariant.listeners_are refl
+    c.in_ok-said.ensures.items c.in-Ok.ensures.hello c.push_reserved.ensures.items refl)
 
 -- and is there
 pub returns-clause-state : goal.returns-clause-state
@@ -49,5 +49,5 @@ returns-clause-state c = leaves_after c.args.self.now _ _ _
     (has_place _ _ _ _ _ _ c.self.view_is true (lt-ltb _ _ (omega arith))))
     (joined_left _ _ _ _ _ _ c.self.view_is c.end-2.new.self
     c.args.challenge.now (hello c.args.self.now.mixer.secret c.args.challenge.now) _
-    (c.end-2.ensures.secret ∙ c.in_ok-join.ensures.secret) c.in_ok-join.ensures.listeners
+    (c.end-2.ensures.secret ∙ c.in-Ok.ensures.secret) c.in-Ok.ensures.listeners
     c.end-2.ensures.listeners)

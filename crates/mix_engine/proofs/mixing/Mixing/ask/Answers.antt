@@ -14,56 +14,56 @@ use Rattle.mix_engine.proofs.mixing.Mixing.ask.Goals as goal
 -- what it came to
 asked : (c : goal.After-end) → IsAsked
     (requested (studio_of c.self.inside.still c.self.inside.graph.present) no_notes c.args.ask)
-    c.in-Some.done c.answer.new.twins.items
-asked c = was_asked _ _ _ _ c.in-Some.is c.in_ok-done.ensures.reply c.in_ok-done.ensures.tells
+    c.in-Ok-Some.done c.answer.new.twins.items
+asked c = was_asked _ _ _ _ c.in-Ok-Some.field-0-is c.in-Ok-Some.ensures.reply c.in-Ok-Some.ensures.tells
 
 -- its events can be said
 pub invariant_of-self-2 : goal.invariant_of-self-2
 invariant_of-self-2 c =
     told_mixing _ _ _ c.self.inside.audience.listeners _ c.self.invariant _ _
-    (Some c.args.conn) _ _ _ _ c.in_ok-done.ensures.scenes c.in_ok-done.ensures.program
-    c.in_ok-done.ensures.shape c.in_ok-done.ensures.clock (asked c).tells.sayable
-    c.in_ok-reserve.ensures.listeners c.tell.ensures.listeners c.end.ensures.listeners
+    (Some c.args.conn) _ _ _ _ c.in-Ok-Some.ensures.scenes c.in-Ok-Some.ensures.program
+    c.in-Ok-Some.ensures.shape c.in-Ok-Some.ensures.clock (asked c).tells.sayable
+    c.in-Ok-reserve.ensures.listeners c.tell.ensures.listeners c.end.ensures.listeners
 
 -- it is told what waits for it, the events that it takes, and its answer
-pub returns-clause-reply : goal.returns-clause-reply
-returns-clause-reply c =
+pub returns-in-Ok-Some-clause-reply : goal.returns-in-Ok-Some-clause-reply
+returns-in-Ok-Some-clause-reply c =
     speaks c.args.self.now.listeners c.args.self.now.mixer.studio _ _ _
     (asks _ _ _ _ _ _ c.self.view_is c.args.ask c.args.conn (asked c).all (asked c).asked_is)
     (record {
       own = refl;
-      said = answered_told _ _ _ _ _ _ c.self.view_is c.args.ask c.in-Some.done _ (asked c)
-          c.self.invariant.listeners_are c.args.conn _ _ _ _ c.in_ok-reserve.ensures.listeners
-          c.in_ok-said.ensures.said c.tell.ensures.said c.push_reserved.ensures.items;
+      said = answered_told _ _ _ _ _ _ c.self.view_is c.args.ask c.in-Ok-Some.done _ (asked c)
+          c.self.invariant.listeners_are c.args.conn _ _ _ _ c.in-Ok-reserve.ensures.listeners
+          c.in-Ok.ensures.said c.tell.ensures.said c.push_reserved.ensures.items;
       shot = refl;
     })
 
 -- what the request leaves
-pub returns-clause-state : goal.returns-clause-state
-returns-clause-state c =
+pub returns-in-Ok-Some-clause-state : goal.returns-in-Ok-Some-clause-state
+returns-in-Ok-Some-clause-state c =
     leaves_after c.args.self.now _ _ _
     (asks _ _ _ _ _ _ c.self.view_is c.args.ask c.args.conn (asked c).all (asked c).asked_is)
-    (answered_left _ _ _ _ _ _ c.self.view_is c.args.ask c.in-Some.done _ (asked c)
+    (answered_left _ _ _ _ _ _ c.self.view_is c.args.ask c.in-Ok-Some.done _ (asked c)
     c.self.invariant.listeners_are c.answer.new.still c.answer.new.graph.present c.end.new.self
     c.args.conn _ _
-    c.in_ok-done.ensures.state
-    (c.end.ensures.secret ∙ c.tell.ensures.secret ∙ c.in_ok-reserve.ensures.secret)
-    c.in_ok-reserve.ensures.listeners c.tell.ensures.listeners c.end.ensures.listeners)
+    c.in-Ok-Some.ensures.state
+    (c.end.ensures.secret ∙ c.tell.ensures.secret ∙ c.in-Ok-reserve.ensures.secret)
+    c.in-Ok-reserve.ensures.listeners c.tell.ensures.listeners c.end.ensures.listeners)
 
 -- all of it can be said
-pub returns-clause-said : goal.returns-clause-said
-returns-clause-said c =
+pub returns-in-Ok-Some-clause-said : goal.returns-in-Ok-Some-clause-said
+returns-in-Ok-Some-clause-said c =
     record {
       own = tt;
       shot = tt;
       sayable = then_sayable _ _ _ (taken_sayable c.args.conn _ _ _ _ (asked c).tells.sayable
           (waited_sayable c.self.inside.next_conn c.args.conn c.self.inside.audience.listeners _
-          c.self.invariant.listeners_are c.in_ok-said.ensures.said) c.tell.ensures.said)
-          (done_sayable_as _ _ c.args.ask c.in-Some.done _ c.requires.id (asked c))
+          c.self.invariant.listeners_are c.in-Ok.ensures.said) c.tell.ensures.said)
+          (done_sayable_as _ _ c.args.ask c.in-Ok-Some.done _ c.requires.id (asked c))
           c.push_reserved.ensures.items;
     }
 
 -- the next ids of items
-pub returns-clause-items : goal.returns-clause-items
-returns-clause-items c = λ n within. c.in_ok-done.ensures.items n
+pub returns-in-Ok-Some-clause-items : goal.returns-in-Ok-Some-clause-items
+returns-in-Ok-Some-clause-items c = λ n within. c.in-Ok-Some.ensures.items n
     (subst (λ (m : Mixed). ItemsWithin n m.mixer.studio.graph) (sym c.self.view_is) within)

@@ -44,7 +44,7 @@ returns-clause-value c = opened_value c.args.collection.now c.in-Some.graph c.in
     c.in_ok-graph-2.field-0 c.in-Some-2.graph c.in-Some-2.program c.in-Some-2.is
     c.in_ok-graph-2.ensures.value)
     c.still_of.result c.new.result.secret (map conn_of c.new.result.listeners)
-    c.still_of.ensures.value (c.new.ensures.secret ∙ c.in_ok-secret.ensures.value)
+    c.still_of.ensures.value (c.new.ensures.secret ∙ c.in-Ok.ensures.value)
     (ap (map conn_of) c.new.ensures.listeners) c.if-is_some.ensures
 
 pub returns-clause-serials : goal.returns-clause-serials

@@ -24,8 +24,8 @@ pub returns-clause-said : goal.returns-clause-said
 returns-clause-said c = record {
   own = tt;
   shot = tt;
-  sayable = then_sayable c.in_ok-all.all.items _ c.args.said
+  sayable = then_sayable c.in-Ok.all.items _ c.args.said
       (waited_sayable c.self.inside.next_conn c.args.conn c.self.inside.audience.listeners _
-      c.self.invariant.listeners_are c.in_ok-all.ensures.said)
+      c.self.invariant.listeners_are c.in-Ok.ensures.said)
       c.requires.said c.push_reserved.ensures.items;
 }

@@ -26,7 +26,7 @@ returns-then-frames-ge-MOST_FRAMES-clause-state c = leaves_after c.args.self.now
 
 -- a frame is taken under the clock's number
 held : (c : goal.After-new) → c.take_frame.new.graph.present ≡ taken c.self.inside.graph.present
-held c = taken_number _ _ _ c.self.invariant.clock_is c.in_ok-take_frame.ensures.ok
+held c = taken_number _ _ _ c.self.invariant.clock_is c.in-Ok.ensures.ok
 
 pub invariant_of-self-2 : goal.invariant_of-self-2
 invariant_of-self-2 c = taken_mixing _ c.self.inside.graph.present c.self.inside.clock
