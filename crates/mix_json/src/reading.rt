@@ -34,7 +34,11 @@ pub fn read(alloc: Global, bytes: &[u8]) -> Result<Json, JsonFault>
     ensures not_json { result ≡ Err JsonFault.NotJson → json_of bytes.now ≡ None }
 {
     match Value::from_slice(alloc, bytes) {
-        Ok(value) => Ok(convert(alloc, &value)?),
+        Ok(value) => {
+            let json = convert(alloc, &value);
+            drop(value);
+            Ok(json?)
+        }
         Err(error) => match error.classify() {
             Category::Memory => Err(JsonFault::NoMemory),
             Category::Io | Category::Syntax | Category::Data | Category::Eof => {
@@ -71,9 +75,13 @@ fn convert_number(number: &Number) -> Json
 fn convert_items(alloc: Global, items: &Vec<Value>) -> Result<JsonList, NoMemory>
     ensures { IfOk result (λ list. list ≡ of_items (items_view items.now.items)) }
 {
-    let mut list = Vec::new(alloc);
+    let mut list = Vec::with_capacity(alloc, items.len())?;
     for item in items {
-        list.push(convert(alloc, item)?)?;
+        let Ok(json) = convert(alloc, item) else {
+            drop(list);
+            return Err(NoMemory);
+        };
+        list.push_reserved(json);
     }
     Ok(ListOf::from_vec(list))
 }
@@ -82,11 +90,18 @@ fn convert_items(alloc: Global, items: &Vec<Value>) -> Result<JsonList, NoMemory
 fn convert_members(alloc: Global, members: &Map<String, Value>) -> Result<JsonObj, NoMemory>
     ensures { IfOk result (λ obj. obj ≡ of_members (members_view members.now.entries)) }
 {
-    let mut obj = Vec::new(alloc);
+    let mut obj = Vec::with_capacity(alloc, members.len())?;
     for (key, member) in members.iter() {
-        let key = Text::from_str(alloc, key.as_str())?;
-        let value = convert(alloc, member)?;
-        obj.push(Member { key, value })?;
+        let Ok(key) = Text::from_str(alloc, key.as_str()) else {
+            drop(obj);
+            return Err(NoMemory);
+        };
+        let Ok(value) = convert(alloc, member) else {
+            drop(key);
+            drop(obj);
+            return Err(NoMemory);
+        };
+        obj.push_reserved(Member { key, value });
     }
     Ok(Members::from_rising(obj))
 }

@@ -43,6 +43,14 @@ impl Fields {
         }
     }
 
+    /// The fields of an object without a fraction.
+    pub fn from_obj(alloc: Global, members: JsonObj) -> Fields
+        requires whole { obj_has_frac members ≡ false }
+        ensures value { result ≡ members }
+    {
+        Fields { alloc, members }
+    }
+
     /// Any value without a fraction.
     #[tactic(auto, using(crate::proofs::TreeLemmas::put_whole), unfolding(crate::specs::Trees::with_field))]
     pub fn value(self, key: &str, value: Json) -> Result<Fields, NoMemory>
@@ -50,8 +58,15 @@ impl Fields {
         ensures value { IfOk result (λ all. all ≡ with_field key.now value self) }
     {
         let Fields { alloc, mut members } = self;
-        let key = Text::from_str(alloc, key)?;
-        members.put(key, value)?;
+        let Ok(key) = Text::from_str(alloc, key) else {
+            drop(value);
+            drop(members);
+            return Err(NoMemory);
+        };
+        let Ok(()) = members.put(key, value) else {
+            drop(members);
+            return Err(NoMemory);
+        };
         Ok(Fields { alloc, members })
     }
 
@@ -76,7 +91,10 @@ impl Fields {
     pub fn text(self, key: &str, text: &str) -> Result<Fields, NoMemory>
         ensures value { IfOk result (λ all. all ≡ with_field key.now (json.Text text.now) self) }
     {
-        let text = Text::from_str(self.alloc, text)?;
+        let Ok(text) = Text::from_str(self.alloc, text) else {
+            drop(self);
+            return Err(NoMemory);
+        };
         self.value(key, Json::Text(text))
     }
 
@@ -105,7 +123,10 @@ impl Fields {
         requires whole { obj_has_frac obj.now ≡ false }
         ensures value { IfOk result (λ all. all ≡ with_field key.now (json.Obj obj.now) self) }
     {
-        let obj = obj.copy(self.alloc)?;
+        let Ok(obj) = obj.copy(self.alloc) else {
+            drop(self);
+            return Err(NoMemory);
+        };
         self.value(key, Json::Obj(obj))
     }
 
@@ -133,7 +154,10 @@ impl Fields {
         ensures value { IfOk result (λ text. text ≡ json_text (json.Obj self)) }
     {
         let alloc = self.alloc;
-        write(alloc, &Json::Obj(self.into_obj()))
+        let obj = Json::Obj(self.into_obj());
+        let text = write(alloc, &obj);
+        drop(obj);
+        text
     }
 }
 

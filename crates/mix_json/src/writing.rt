@@ -16,7 +16,9 @@ pub fn write(alloc: Global, value: &Json) -> Result<Text, NoMemory>
     ensures value { IfOk result (λ text. text ≡ json_text value.now) }
 {
     let value = convert(alloc, value)?;
-    Text::from_string(value.to_string(alloc)?)
+    let text = value.to_string(alloc);
+    drop(value);
+    Text::from_string(text?)
 }
 
 #[cycle(convert)]
@@ -39,9 +41,13 @@ fn convert_items(alloc: Global, items: &[Json]) -> Result<Vec<Value>, NoMemory>
     ensures value { IfOk result (λ v. items_view v.items ≡ items_data items.now) }
     ensures whole { IfOk result (λ v. items_have_float (items_view v.items) ≡ false) }
 {
-    let mut values = Vec::new(alloc);
+    let mut values = Vec::with_capacity(alloc, items.len())?;
     for item in items {
-        values.push(convert(alloc, item)?)?;
+        let Ok(value) = convert(alloc, item) else {
+            drop(values);
+            return Err(NoMemory);
+        };
+        values.push_reserved(value);
     }
     Ok(values)
 }
@@ -53,9 +59,20 @@ fn convert_members(alloc: Global, members: &JsonObj) -> Result<Map<String, Value
 {
     let mut map = Map::new(alloc);
     for member in members.as_slice() {
-        let key = String::from_str(alloc, member.key.as_str())?;
-        let value = convert(alloc, &member.value)?;
-        drop(map.insert(key, value)?);
+        let Ok(key) = String::from_str(alloc, member.key.as_str()) else {
+            drop(map);
+            return Err(NoMemory);
+        };
+        let Ok(value) = convert(alloc, &member.value) else {
+            drop(key);
+            drop(map);
+            return Err(NoMemory);
+        };
+        let Ok(before) = map.insert(key, value) else {
+            drop(map);
+            return Err(NoMemory);
+        };
+        drop(before);
     }
     Ok(map)
 }

@@ -12,25 +12,52 @@ use std::alloc::Global;
 pub fn line_of(alloc: Global, action: &Action) -> Result<Text, NoMemory>
     ensures value { IfOk result (λ line. line ≡ line_text action.now) }
 {
-    let line = match action {
-        Action::Arrive { challenge } => arrival_line(alloc, challenge)?,
-        Action::Hear {
-            conn,
-            message: Message::Text(text),
-        } => text_line(alloc, *conn, text)?,
-        Action::Hear {
-            conn,
-            message: Message::Binary(bytes),
-        } => bytes_line(alloc, *conn, bytes)?,
-        Action::Poll { conn } => format!(in alloc; "?c{}", conn.0)?,
-        Action::BatchNext { conn } => format!(in alloc; "*c{}", conn.0)?,
-        Action::Leave { conn } => format!(in alloc; "-c{}", conn.0)?,
-        Action::VideoTick => format!(in alloc; "v")?,
-        Action::AudioTick => format!(in alloc; "a")?,
-        Action::FrameDone { number } => format!(in alloc; "f {number}")?,
-        Action::Destroy => format!(in alloc; "d")?,
-    };
-    Text::from_string(line)
+    Text::from_string(action_line(alloc, action)?)
+}
+
+fn action_line(alloc: Global, action: &Action) -> Result<String, NoMemory>
+    ensures { IfOk result (λ line. string_bytes line ≡ line_text action.now) }
+{
+    match action {
+        Action::Arrive { challenge } => arrival_line(alloc, challenge),
+        Action::Hear { conn, message } => message_line(alloc, *conn, message),
+        Action::Poll { conn } => connection_line(alloc, "?c", *conn),
+        Action::BatchNext { conn } => connection_line(alloc, "*c", *conn),
+        Action::Leave { conn } => connection_line(alloc, "-c", *conn),
+        Action::VideoTick => word_line(alloc, "v"),
+        Action::AudioTick => word_line(alloc, "a"),
+        Action::FrameDone { number } => frame_line(alloc, *number),
+        Action::Destroy => word_line(alloc, "d"),
+    }
+}
+
+/// A line that is one word.
+fn word_line(alloc: Global, word: &str) -> Result<String, NoMemory>
+    ensures { IfOk result (λ line. string_bytes line ≡ word.now) }
+{
+    Ok(String::from_str(alloc, word)?)
+}
+
+/// The line of a word about a connection.
+fn connection_line(alloc: Global, word: &str, conn: ConnId) -> Result<String, NoMemory>
+    ensures { IfOk result (λ line. string_bytes line ≡ word.now ++ decimal conn) }
+{
+    Ok(format!(in alloc; "{word}{}", conn.0)?)
+}
+
+fn frame_line(alloc: Global, number: u64) -> Result<String, NoMemory>
+    ensures { IfOk result (λ line. string_bytes line ≡ codes "f " ++ decimal number) }
+{
+    Ok(format!(in alloc; "f {number}")?)
+}
+
+fn message_line(alloc: Global, conn: ConnId, message: &Message) -> Result<String, NoMemory>
+    ensures { IfOk result (λ line. string_bytes line ≡ said_text conn message.now) }
+{
+    match message {
+        Message::Text(text) => text_line(alloc, conn, text),
+        Message::Binary(bytes) => bytes_line(alloc, conn, bytes),
+    }
 }
 
 fn arrival_line(alloc: Global, challenge: &Bytes32) -> Result<String, NoMemory>

@@ -3,10 +3,10 @@ use Rattle.mix_json.proofs.ReadLemmas.{json_of_reads, json_of_none}
 use Rattle.mix_json.proofs.reading.read.Goals as goal
 
 -- the bytes have a reading, and its value is what was made of it
-pub returns-in_ok-convert-in-Ok-clause-value : goal.returns-in_ok-convert-in-Ok-clause-value
-returns-in_ok-convert-in-Ok-clause-value c =
+pub returns-in_ok-json-in-Ok-clause-value : goal.returns-in_ok-json-in-Ok-clause-value
+returns-in_ok-json-in-Ok-clause-value c =
     let ok = c.in-Ok.ensures.ok in
-    json_of_reads c.args.bytes.now _ ok.0 ok.1 ∙ ap Some (sym c.in_ok-convert-in-Ok.ensures)
+    json_of_reads c.args.bytes.now _ ok.0 ok.1 ∙ ap Some (sym c.in_ok-json-in-Ok.ensures)
 
 -- they have none
 pub returns-in-Io : goal.returns-in-Io

@@ -14,10 +14,14 @@ convert_items-loop-item-preserved t c =
     let xs = c.args.items.now in
     let x = c.item-item.result in
     let more : take (l.item-index + 1) xs ≡ take l.item-index xs ++ x ∷ [] = take_more xs l.item-index x (omega arith) ∙ ap (λ y. take l.item-index xs ++ y ∷ []) (sym c.item-item.is) in
-    rw (c.in_ok-push.ensures.items, more) (
-      maps_push l.values.items c.in_ok-convert.field-0 (take l.item-index xs) x l.invariant.0 c.in_ok-convert.ensures.value,
-      items_whole l.values.items c.in_ok-convert.field-0 l.invariant.1 c.in_ok-convert.ensures.whole,
-    )
+    record {
+      items = rw (c.push_reserved.ensures.items, more)
+          (maps_push l.values.items c.in-Ok.value (take l.item-index xs) x l.invariant.items c.in-Ok.ensures.value);
+      whole = rw c.push_reserved.ensures.items
+          (items_whole l.values.items c.in-Ok.value l.invariant.whole c.in-Ok.ensures.whole);
+      count = search rules;
+      room = search rules;
+    }
 
 -- one more member
 pub convert_members-loop-member-preserved : goal.convert_members-loop-member-preserved
@@ -28,8 +32,8 @@ convert_members-loop-member-preserved t c =
     let within : l.member-index < length ps = search rules in
     let here : get_or ps l.member-index p ≡ p = search rules in
     let more : take (l.member-index + 1) ps ≡ take l.member-index ps ++ p ∷ [] = take_more ps l.member-index p within ∙ ap (λ y. take l.member-index ps ++ y ∷ []) here in
-    let named : string_bytes c.in_ok-key.key ≡ p.key = search rules in
-    let grown : members_view c.insert.new.self.entries ≡ put p.key (view c.in_ok-value.value) (members_view l.map.entries) = ap members_view c.in_ok-insert.ensures.entries ∙ members_view-insert_entry l.map.entries c.in_ok-key.key c.in_ok-value.value ∙ rw named refl in (
-      grown ∙ rw (c.in_ok-value.ensures.value, l.invariant.0) (sym (ap members_data more ∙ members_push (take l.member-index ps) p)),
-      rw grown (put_whole p.key (view c.in_ok-value.value) (members_view l.map.entries) l.invariant.1 c.in_ok-value.ensures.whole),
+    let named : string_bytes c.in-Ok.key ≡ p.key = search rules in
+    let grown : members_view c.insert.new.self.entries ≡ put p.key (view c.in-Ok-convert.value) (members_view l.map.entries) = ap members_view c.in-Ok-insert.ensures.entries ∙ members_view-insert_entry l.map.entries c.in-Ok.key c.in-Ok-convert.value ∙ rw named refl in (
+      grown ∙ rw (c.in-Ok-convert.ensures.value, l.invariant.0) (sym (ap members_data more ∙ members_push (take l.member-index ps) p)),
+      rw grown (put_whole p.key (view c.in-Ok-convert.value) (members_view l.map.entries) l.invariant.1 c.in-Ok-convert.ensures.whole),
     )
