@@ -8,7 +8,8 @@ use Rattle.mix_engine.proofs.requests.answer_to.Goals as goal
 -- GetSceneList tells nothing
 pub returns-in_ok-fields-in-GetSceneList-clause-tells :
     goal.returns-in_ok-fields-in-GetSceneList-clause-tells
-returns-in_ok-fields-in-GetSceneList-clause-tells c = tells_nothing _ c.requires.empty
+returns-in_ok-fields-in-GetSceneList-clause-tells c =
+    rw c.in-GetSceneList.is (tells_nothing _ c.requires.empty)
 
 -- SetCurrentProgramScene makes no item
 pub returns-in_ok-set_current_program_scene-in-SetCurrentProgramScene-clause-items :
@@ -21,4 +22,5 @@ returns-in_ok-set_current_program_scene-in-SetCurrentProgramScene-clause-items c
 pub returns-in_ok-broadcast_custom_event-in-BroadcastCustomEvent-clause-state :
     goal.returns-in_ok-broadcast_custom_event-in-BroadcastCustomEvent-clause-state
 returns-in_ok-broadcast_custom_event-in-BroadcastCustomEvent-clause-state c =
-    custom_keeps (studio_of c.args.still.now c.args.graph.now.present) no_notes c.args.body.now
+    rw c.in-BroadcastCustomEvent.is
+    (custom_keeps (studio_of c.args.still.now c.args.graph.now.present) no_notes c.args.body.now)

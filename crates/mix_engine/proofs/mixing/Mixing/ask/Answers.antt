@@ -18,8 +18,8 @@ asked : (c : goal.After-end) → IsAsked
 asked c = was_asked _ _ _ _ c.in-Ok-Some.field-0-is c.in-Ok-Some.ensures.reply c.in-Ok-Some.ensures.tells
 
 -- its events can be said
-pub invariant_of-self-2 : goal.invariant_of-self-2
-invariant_of-self-2 c =
+pub invariant_of-self-in-Ok-Some : goal.invariant_of-self-in-Ok-Some
+invariant_of-self-in-Ok-Some c =
     told_mixing _ _ _ c.self.inside.audience.listeners _ c.self.invariant _ _
     (Some c.args.conn) _ _ _ _ c.in-Ok-Some.ensures.scenes c.in-Ok-Some.ensures.program
     c.in-Ok-Some.ensures.shape c.in-Ok-Some.ensures.clock (asked c).tells.sayable
