@@ -33,9 +33,7 @@ fn digest_text(alloc: Global, rgba: &[u8]) -> Result<String, AllocError>
     hasher.update(rgba);
     let digest: [u8; 32] = hasher.finalize();
     let digits = hex::encode(alloc, digest.as_slice())?;
-    let text = format!(in alloc; " sha256:{digits}");
-    drop(digits);
-    text
+    format!(in alloc; " sha256:{digits}")
 }
 
 /// Each pixel of a small picture, and the digest of a larger one.
@@ -59,7 +57,5 @@ pub fn frame_line(alloc: Global, number: u64, picture: &Picture) -> Result<Strin
     ensures value { IfOk result (λ line. string_bytes line ≡ frame_line number picture.now) }
 {
     let text = picture_text(alloc, picture)?;
-    let line = format!(in alloc; "v {number}{text}\n");
-    drop(text);
-    line
+    format!(in alloc; "v {number}{text}\n")
 }
