@@ -52,7 +52,8 @@ impl<T: Drop> From<AllocFailed<T>> for Fault {
 
     ghost from_gives = { λ e r. r ≡ NoMemory };
 
-    fn from(_fault: AllocFailed<T>) -> Fault {
+    fn from(refused: AllocFailed<T>) -> Fault {
+        drop(refused);
         Fault::NoMemory
     }
 }

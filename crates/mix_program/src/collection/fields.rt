@@ -22,7 +22,10 @@ fn list_of(alloc: Global, text: &[u8]) -> Result<Option<JsonList>, NoMemory>
 {
     match mix_json::read(alloc, text) {
         Ok(Json::List(items)) => Ok(Some(items)),
-        Ok(_) => Ok(None),
+        Ok(other) => {
+            drop(other);
+            Ok(None)
+        }
         Err(JsonFault::NotJson) => Ok(None),
         Err(JsonFault::NoMemory) => Err(NoMemory),
     }

@@ -35,11 +35,7 @@ pub fn refuse<K: Sink>(alloc: Global, out: &mut K, number: u64) -> Ended
     ensures steady { result ≢ Ended.WriteFault → K.faults out.new ≡ K.faults out.old }
 {
     match format!(in alloc; "not built: line {number}\n") {
-        Ok(text) => {
-            let ended = finish(out, text.as_bytes(), Finished::NotBuilt);
-            drop(text);
-            ended
-        }
+        Ok(text) => finish(out, text.as_bytes(), Finished::NotBuilt),
         Err(_) => Ended::NoMemory,
     }
 }

@@ -92,11 +92,7 @@ fn put_close<K: Sink>(alloc: Global, out: &mut K, conn: ConnId, code: u16) -> Wr
 {
     let number = conn.0;
     match format!(in alloc; "!c{number} {code}\n") {
-        Ok(line) => {
-            let wrote = put(out, line.as_bytes());
-            drop(line);
-            wrote
-        }
+        Ok(line) => put(out, line.as_bytes()),
         Err(_) => Wrote::NoMemory,
     }
 }
@@ -112,11 +108,7 @@ fn put_gone<K: Sink>(alloc: Global, out: &mut K, conn: ConnId) -> Wrote
 {
     let number = conn.0;
     match format!(in alloc; "!c{number} gone\n") {
-        Ok(line) => {
-            let wrote = put(out, line.as_bytes());
-            drop(line);
-            wrote
-        }
+        Ok(line) => put(out, line.as_bytes()),
         Err(_) => Wrote::NoMemory,
     }
 }
@@ -132,11 +124,7 @@ fn put_left<K: Sink>(alloc: Global, out: &mut K, conn: ConnId) -> Wrote
 {
     let number = conn.0;
     match format!(in alloc; "-c{number}\n") {
-        Ok(line) => {
-            let wrote = put(out, line.as_bytes());
-            drop(line);
-            wrote
-        }
+        Ok(line) => put(out, line.as_bytes()),
         Err(_) => Wrote::NoMemory,
     }
 }
@@ -178,14 +166,8 @@ fn put_frame<K: Sink>(
     let Ok(picture) = paint(alloc, shot, number, canvas) else {
         return Wrote::NoMemory;
     };
-    let line = frame_line(alloc, number, &picture);
-    drop(picture);
-    match line {
-        Ok(line) => {
-            let wrote = put(out, line.as_bytes());
-            drop(line);
-            wrote
-        }
+    match frame_line(alloc, number, &picture) {
+        Ok(line) => put(out, line.as_bytes()),
         Err(_) => Wrote::NoMemory,
     }
 }
@@ -199,11 +181,7 @@ fn put_frame_gone<K: Sink>(alloc: Global, out: &mut K, number: u64) -> Wrote
     ensures steady { result ≢ Wrote.WriteFault → K.faults out.new ≡ K.faults out.old }
 {
     match format!(in alloc; "f {number}\n") {
-        Ok(line) => {
-            let wrote = put(out, line.as_bytes());
-            drop(line);
-            wrote
-        }
+        Ok(line) => put(out, line.as_bytes()),
         Err(_) => Wrote::NoMemory,
     }
 }
