@@ -1,5 +1,6 @@
 //! What was done about requests.
-ghost use Rattle.std.specs.Prelude.{◌≡◌, IfOk, IsTrue, All, codes, is_some, map};
+ghost use Rattle.std.specs.Prelude.{◌≡◌, IfOk, IsTrue, All, codes, false, is_some, map};
+ghost use Rattle.mix_base.specs.Json.{has_frac};
 ghost use Rattle.mix_base.specs.declared.json.Json as json;
 ghost use Rattle.mix_json.specs.Trees.{obj_of, put_fields, with_field};
 ghost use Rattle.mix_events.specs.Statuses.{status_name};
@@ -43,14 +44,22 @@ fn with_status(alloc: Global, fields: Fields, code: u16) -> Result<Fields, NoMem
     ensures value { IfOk result (λ all. all
         ≡ with_field (codes "requestStatus") (json.Obj (obj_of (status_fields code))) fields) }
 {
-    fields.obj("requestStatus", status_of(alloc, code)?)
+    let Ok(status) = status_of(alloc, code) else {
+        drop(fields);
+        return Err(NoMemory);
+    };
+    fields.obj("requestStatus", status)
 }
 
 /// With a text, whose bytes are shared.
 fn with_text(fields: Fields, key: &str, text: &Text) -> Result<Fields, NoMemory>
     ensures value { IfOk result (λ all. all ≡ with_field key.now (json.Text text.now) fields) }
 {
-    fields.value(key, Json::Text(text.share()?))
+    let Ok(text) = text.share() else {
+        drop(fields);
+        return Err(NoMemory);
+    };
+    fields.value(key, Json::Text(text))
 }
 
 /// With the id of the request, where it had one.
@@ -63,13 +72,26 @@ fn with_id(fields: Fields, id: &Option<Text>) -> Result<Fields, NoMemory>
     }
 }
 
+/// With a copy of an answer.
+fn with_copy(alloc: Global, fields: Fields, answer: &Json) -> Result<Fields, NoMemory>
+    requires whole { has_frac answer.now ≡ false }
+    ensures value { IfOk result
+        (λ all. all ≡ with_field (codes "responseData") answer.now fields) }
+{
+    let Ok(answer) = answer.copy(alloc) else {
+        drop(fields);
+        return Err(NoMemory);
+    };
+    fields.value("responseData", answer)
+}
+
 /// With the answer, where there is one.
 fn with_answer(alloc: Global, fields: Fields, answer: &Option<Json>) -> Result<Fields, NoMemory>
     requires { IsWholeAnswer answer.now }
     ensures value { IfOk result (λ all. all ≡ put_fields (response_data answer.now) fields) }
 {
     match answer {
-        Some(answer) => fields.value("responseData", answer.copy(alloc)?),
+        Some(answer) => with_copy(alloc, fields, answer),
         None => Ok(fields),
     }
 }
@@ -93,7 +115,14 @@ fn all_done(alloc: Global, results: &[Done]) -> Result<Items, NoMemory>
 {
     let mut items = Items::new(alloc);
     for done in results {
-        items.push_obj(done_fields(alloc, done)?)?;
+        let Ok(fields) = done_fields(alloc, done) else {
+            drop(items);
+            return Err(NoMemory);
+        };
+        let Ok(()) = items.push_obj(fields) else {
+            drop(items);
+            return Err(NoMemory);
+        };
     }
     Ok(items)
 }
@@ -105,6 +134,9 @@ pub fn batch_fields(alloc: Global, id: &Text, results: &[Done]) -> Result<Fields
     ensures value { IfOk result (λ fields. fields ≡ obj_of (batch_fields id.now results.now)) }
 {
     let items = all_done(alloc, results)?;
-    let fields = with_text(Fields::new(alloc), "requestId", id)?;
+    let Ok(fields) = with_text(Fields::new(alloc), "requestId", id) else {
+        drop(items);
+        return Err(NoMemory);
+    };
     fields.list("results", items)
 }

@@ -1,11 +1,11 @@
 //! Events: their types, their bits and their objects.
 ghost use Rattle.std.specs.Prelude.{◌≡◌, IfOk};
 ghost use Rattle.mix_json.specs.Trees.{obj_of};
-ghost use Rattle.mix_events.specs.Sayable.{IsSayableEvent, IsWhole};
+ghost use Rattle.mix_events.specs.Sayable.{IsSayableEvent};
 ghost use Rattle.mix_events.specs.Events.{event_fields, event_intent, event_object, event_type};
 
 use crate::{inputs, items, others, scenes};
-use mix_base::{Json, JsonObj, NoMemory};
+use mix_base::NoMemory;
 use mix_json::Fields;
 use mix_model::Event;
 use std::alloc::Global;
@@ -84,83 +84,64 @@ fn event_type(event: &Event) -> &'static str
 }
 
 /// The object `eventData`.
-fn event_object(alloc: Global, event: &Event) -> Result<JsonObj, NoMemory>
+fn event_object(alloc: Global, event: &Event) -> Result<Fields, NoMemory>
     requires { IsSayableEvent event.now }
     ensures value { IfOk result (λ object. object ≡ event_object event.now) }
-    ensures whole { IfOk result IsWhole }
 {
     match event {
-        Event::CustomEvent { fields } => Ok(fields.copy(alloc)?),
-        Event::SceneCreated { scene, serial } => Ok(scenes::came(
-            alloc, scene, *serial,
-        )?.into_obj()),
-        Event::SceneRemoved { scene, serial } => Ok(scenes::came(
-            alloc, scene, *serial,
-        )?.into_obj()),
-        Event::SceneNameChanged { old, scene, serial } => Ok(scenes::renamed(
+        Event::CustomEvent { fields } => Ok(Fields::from_obj(alloc, fields.copy(alloc)?)),
+        Event::SceneCreated { scene, serial } => scenes::came(alloc, scene, *serial),
+        Event::SceneRemoved { scene, serial } => scenes::came(alloc, scene, *serial),
+        Event::SceneNameChanged { old, scene, serial } => scenes::renamed(
             alloc, old, scene, *serial,
-        )?.into_obj()),
-        Event::CurrentProgramSceneChanged { scene, serial } => Ok(scenes::named(
-            alloc, scene, *serial,
-        )?.into_obj()),
-        Event::CurrentPreviewSceneChanged { scene, serial } => Ok(scenes::named(
-            alloc, scene, *serial,
-        )?.into_obj()),
+        ),
+        Event::CurrentProgramSceneChanged { scene, serial } => scenes::named(alloc, scene, *serial),
+        Event::CurrentPreviewSceneChanged { scene, serial } => scenes::named(alloc, scene, *serial),
         Event::InputCreated {
             kind,
             settings,
             input,
             serial,
-        } => Ok(inputs::created(alloc, *kind, settings, input, *serial)?.into_obj()),
-        Event::InputRemoved { input, serial } => Ok(inputs::named(
-            alloc, input, *serial,
-        )?.into_obj()),
-        Event::InputNameChanged { old, input, serial } => Ok(inputs::renamed(
+        } => inputs::created(alloc, *kind, settings, input, *serial),
+        Event::InputRemoved { input, serial } => inputs::named(alloc, input, *serial),
+        Event::InputNameChanged { old, input, serial } => inputs::renamed(
             alloc, old, input, *serial,
-        )?.into_obj()),
+        ),
         Event::InputSettingsChanged {
             settings,
             input,
             serial,
-        } => Ok(inputs::set(alloc, settings, input, *serial)?.into_obj()),
+        } => inputs::set(alloc, settings, input, *serial),
         Event::InputMuteStateChanged {
             muted,
             input,
             serial,
-        } => Ok(inputs::muted(alloc, *muted, input, *serial)?.into_obj()),
+        } => inputs::muted(alloc, *muted, input, *serial),
         Event::InputVolumeChanged {
             volume,
             input,
             serial,
-        } => Ok(inputs::volume(alloc, *volume, input, *serial)?.into_obj()),
+        } => inputs::volume(alloc, *volume, input, *serial),
         Event::InputAudioTracksChanged {
             tracks,
             input,
             serial,
-        } => Ok(inputs::tracks(alloc, *tracks, input, *serial)?.into_obj()),
+        } => inputs::tracks(alloc, *tracks, input, *serial),
         Event::InputAudioSyncOffsetChanged {
             offset,
             input,
             serial,
-        } => Ok(inputs::offset(alloc, *offset, input, *serial)?.into_obj()),
-        Event::CurrentSceneTransitionChanged { transition } => Ok(others::transition(
+        } => inputs::offset(alloc, *offset, input, *serial),
+        Event::CurrentSceneTransitionChanged { transition } => others::transition(
             alloc,
             *transition,
-        )?.into_obj()),
-        Event::SceneTransitionStarted { transition } => Ok(others::transition(
-            alloc,
-            *transition,
-        )?.into_obj()),
-        Event::SceneTransitionEnded { transition } => Ok(others::transition(
-            alloc,
-            *transition,
-        )?.into_obj()),
-        Event::CurrentSceneTransitionDurationChanged { duration } => Ok(others::duration(
+        ),
+        Event::SceneTransitionStarted { transition } => others::transition(alloc, *transition),
+        Event::SceneTransitionEnded { transition } => others::transition(alloc, *transition),
+        Event::CurrentSceneTransitionDurationChanged { duration } => others::duration(
             alloc, *duration,
-        )?.into_obj()),
-        Event::RecordStateChanged { active, word } => Ok(others::record(
-            alloc, *active, *word,
-        )?.into_obj()),
+        ),
+        Event::RecordStateChanged { active, word } => others::record(alloc, *active, *word),
         Event::SceneItemCreated {
             item,
             index,
@@ -168,70 +149,60 @@ fn event_object(alloc: Global, event: &Event) -> Result<JsonObj, NoMemory>
             serial,
             source,
             source_serial,
-        } => Ok(items::created(
-            alloc,
-            *item,
-            *index,
-            scene,
-            *serial,
-            source,
-            *source_serial,
-        )?.into_obj()),
+        } => items::created(alloc, *item, *index, scene, *serial, source, *source_serial),
         Event::SceneItemRemoved {
             item,
             scene,
             serial,
             source,
             source_serial,
-        } => Ok(items::removed(alloc, *item, scene, *serial, source, *source_serial)?.into_obj()),
+        } => items::removed(alloc, *item, scene, *serial, source, *source_serial),
         Event::SceneItemListReindexed {
             items,
             scene,
             serial,
-        } => Ok(items::reindexed(alloc, items, scene, *serial)?.into_obj()),
+        } => items::reindexed(alloc, items, scene, *serial),
         Event::SceneItemEnableStateChanged {
             enabled,
             item,
             scene,
             serial,
-        } => Ok(items::enabled(alloc, *enabled, *item, scene, *serial)?.into_obj()),
+        } => items::enabled(alloc, *enabled, *item, scene, *serial),
         Event::SceneItemLockStateChanged {
             item,
             locked,
             scene,
             serial,
-        } => Ok(items::locked(alloc, *item, *locked, scene, *serial)?.into_obj()),
-        Event::StudioModeStateChanged { enabled } => Ok(others::studio(
-            alloc, *enabled,
-        )?.into_obj()),
+        } => items::locked(alloc, *item, *locked, scene, *serial),
+        Event::StudioModeStateChanged { enabled } => others::studio(alloc, *enabled),
         Event::InputActiveStateChanged {
             input,
             serial,
             active,
-        } => Ok(inputs::active(alloc, input, *serial, *active)?.into_obj()),
+        } => inputs::active(alloc, input, *serial, *active),
         Event::InputShowStateChanged {
             input,
             serial,
             showing,
-        } => Ok(inputs::showing(alloc, input, *serial, *showing)?.into_obj()),
+        } => inputs::showing(alloc, input, *serial, *showing),
         Event::SceneItemTransformChanged {
             item,
             place,
             size,
             scene,
             serial,
-        } => Ok(items::transformed(alloc, *item, place, *size, scene, *serial)?.into_obj()),
+        } => items::transformed(alloc, *item, place, *size, scene, *serial),
     }
 }
 
 /// The fields of an event's message.
-#[tactic(auto, using(mix_json::proofs::TreeLemmas::obj_whole), unfolding(crate::specs::Events::event_fields))]
+#[tactic(auto, unfolding(crate::specs::Events::event_fields))]
 pub fn event_fields(alloc: Global, event: &Event) -> Result<Fields, NoMemory>
     requires { IsSayableEvent event.now }
     ensures value { IfOk result (λ fields. fields ≡ obj_of (event_fields event.now)) }
 {
-    let object = Json::Obj(event_object(alloc, event)?);
-    let fields = Fields::new(alloc).value("eventData", object)?;
+    let object = event_object(alloc, event)?;
+    let fields = Fields::new(alloc).obj("eventData", object)?;
     let fields = fields.int("eventIntent", i64::from(intent(event)))?;
     fields.text("eventType", event_type(event))
 }

@@ -18,8 +18,13 @@ fn with_bytes(alloc: Global, fields: Fields, key: &str, bytes: &Bytes32) -> Resu
     ensures value { IfOk result
         (λ all. all ≡ with_field key.now (json.Text (encode_of standard bytes.now)) fields) }
 {
-    let encoded = STANDARD.encode(alloc, bytes.0.as_slice())?;
-    fields.text(key, encoded.as_str())
+    let Ok(encoded) = STANDARD.encode(alloc, bytes.0.as_slice()) else {
+        drop(fields);
+        return Err(NoMemory);
+    };
+    let fields = fields.text(key, encoded.as_str());
+    drop(encoded);
+    fields
 }
 
 /// The object `authentication`.
@@ -36,7 +41,13 @@ fn with_login(alloc: Global, fields: Fields, login: &Option<Login>) -> Result<Fi
     ensures value { IfOk result (λ all. all ≡ put_fields (authentication login.now) fields) }
 {
     match login {
-        Some(login) => fields.obj("authentication", login_of(alloc, login)?),
+        Some(login) => match login_of(alloc, login) {
+            Ok(login) => fields.obj("authentication", login),
+            Err(NoMemory) => {
+                drop(fields);
+                Err(NoMemory)
+            }
+        },
         None => Ok(fields),
     }
 }

@@ -8,7 +8,8 @@ ghost use Rattle.mix_events.specs.InputEvents.{input_muted, input_offset, input_
 ghost use Rattle.mix_events.specs.InputEvents.{input_settings, input_showing, input_tracks};
 ghost use Rattle.mix_events.specs.InputEvents.{input_volume, track_fields};
 
-use mix_base::{JsonObj, Name, NoMemory, Serial, uuid_text};
+use crate::uuids::with_uuid;
+use mix_base::{JsonObj, Name, NoMemory, Serial};
 use mix_json::Fields;
 use mix_model::Kind;
 use std::alloc::Global;
@@ -25,8 +26,7 @@ pub fn with_input(
     ensures value { IfOk result (λ all. all ≡ put_fields (input_fields input.now serial) fields) }
 {
     let fields = fields.text("inputName", input.as_str())?;
-    let uuid = uuid_text(alloc, serial)?;
-    fields.text("inputUuid", uuid.as_str())
+    with_uuid(alloc, fields, "inputUuid", serial)
 }
 
 pub fn kind_id(kind: Kind) -> &'static str
@@ -133,7 +133,8 @@ pub fn tracks(alloc: Global, tracks: u8, input: &Name, serial: Serial) -> Result
     ensures value { IfOk result
         (λ fields. fields ≡ obj_of (input_tracks tracks input.now serial)) }
 {
-    let fields = Fields::new(alloc).obj("inputAudioTracks", tracks_of(alloc, tracks)?)?;
+    let heard = tracks_of(alloc, tracks)?;
+    let fields = Fields::new(alloc).obj("inputAudioTracks", heard)?;
     with_input(alloc, fields, input, serial)
 }
 

@@ -11,7 +11,8 @@ ghost use Rattle.mix_events.specs.ItemEvents.{size_fields, source_fields, transf
 ghost use Rattle.mix_events.specs.ItemEvents.{turn_fields};
 
 use crate::scenes::with_scene;
-use mix_base::{ItemId, Name, NoMemory, Serial, uuid_text};
+use crate::uuids::with_uuid;
+use mix_base::{ItemId, Name, NoMemory, Serial};
 use mix_json::{Fields, Items};
 use mix_model::{IdList, Place};
 use std::alloc::Global;
@@ -35,8 +36,7 @@ fn with_source(
     ensures value { IfOk result (λ all. all ≡ put_fields (source_fields source.now serial) fields) }
 {
     let fields = fields.text("sourceName", source.as_str())?;
-    let uuid = uuid_text(alloc, serial)?;
-    fields.text("sourceUuid", uuid.as_str())
+    with_uuid(alloc, fields, "sourceUuid", serial)
 }
 
 #[tactic(auto, unfolding(crate::specs::ItemEvents::item_created, crate::specs::SceneEvents::scene_fields))]
@@ -94,7 +94,14 @@ fn all_indexed(alloc: Global, items: &[ItemId]) -> Result<Items, NoMemory>
     let mut all = Items::new(alloc);
     let mut index: u64 = 0;
     for item in items {
-        all.push_obj(indexed(alloc, *item, index)?)?;
+        let Ok(fields) = indexed(alloc, *item, index) else {
+            drop(all);
+            return Err(NoMemory);
+        };
+        let Ok(()) = all.push_obj(fields) else {
+            drop(all);
+            return Err(NoMemory);
+        };
         index += 1;
     }
     Ok(all)
@@ -226,7 +233,10 @@ fn with_transform(
     ensures value { IfOk result (λ all. all ≡ with_field (codes "sceneItemTransform")
         (json.Obj (obj_of (transform_fields place.now size.0 size.1))) fields) }
 {
-    let transform = transform_of(alloc, place, size.0, size.1)?;
+    let Ok(transform) = transform_of(alloc, place, size.0, size.1) else {
+        drop(fields);
+        return Err(NoMemory);
+    };
     fields.obj("sceneItemTransform", transform)
 }
 

@@ -10,6 +10,7 @@ mod others;
 mod said;
 mod scenes;
 mod status;
+mod uuids;
 
 pub use event::intent;
 pub use said::said_text;

@@ -44,6 +44,7 @@ pub fn said_text(alloc: Global, said: &Said) -> Result<Text, NoMemory>
     requires sayable { IsSayable said.now }
     ensures value { IfOk result (λ text. text ≡ said_text said.now) }
 {
-    let fields = Fields::new(alloc).obj("d", fields_of(alloc, said)?)?;
+    let fields = fields_of(alloc, said)?;
+    let fields = Fields::new(alloc).obj("d", fields)?;
     fields.int("op", op_of(said))?.write()
 }

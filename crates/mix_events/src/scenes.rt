@@ -4,7 +4,8 @@ ghost use Rattle.mix_json.specs.Trees.{obj_of, put_fields};
 ghost use Rattle.mix_events.specs.Sayable.{IsShort};
 ghost use Rattle.mix_events.specs.SceneEvents.{scene_came, scene_fields, scene_renamed};
 
-use mix_base::{Name, NoMemory, Serial, uuid_text};
+use crate::uuids::with_uuid;
+use mix_base::{Name, NoMemory, Serial};
 use mix_json::Fields;
 use std::alloc::Global;
 
@@ -20,8 +21,7 @@ pub fn with_scene(
     ensures value { IfOk result (λ all. all ≡ put_fields (scene_fields scene.now serial) fields) }
 {
     let fields = fields.text("sceneName", scene.as_str())?;
-    let uuid = uuid_text(alloc, serial)?;
-    fields.text("sceneUuid", uuid.as_str())
+    with_uuid(alloc, fields, "sceneUuid", serial)
 }
 
 #[tactic(auto, unfolding(crate::specs::SceneEvents::scene_came))]

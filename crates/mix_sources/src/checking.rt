@@ -45,7 +45,9 @@ fn keys_or_defaults(
     match over {
         Settings::None => {
             let standing = default_of(alloc, kind, canvas)?;
-            keys_over(alloc, &standing, given)
+            let settings = keys_over(alloc, &standing, given);
+            drop(standing);
+            settings
         }
         _ => keys_over(alloc, over, given),
     }

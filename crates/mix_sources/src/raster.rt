@@ -32,8 +32,13 @@ pub fn raster_over(
 {
     let height = side_at(alloc, given, "height", height)?;
     let text = text_at(alloc, given, "pixels")?;
-    let width = side_at(alloc, given, "width", width)?;
-    raster(alloc, width, height, pixels, text)
+    match side_at(alloc, given, "width", width) {
+        Ok(width) => raster(alloc, width, height, pixels, text),
+        Err(fault) => {
+            drop(text);
+            Err(fault)
+        }
+    }
 }
 
 /// A raster of this size, with the pixels of a text, or those that stand where there is none.
@@ -48,6 +53,7 @@ fn raster(
     ensures value { Answers result (raster_of width height (pixels_of standing.now text)) }
 {
     if area(width, height) > MOST_PIXELS {
+        drop(text);
         return Err(bad(alloc, "height", OUT_OF_RANGE));
     }
     let pixels = pixels(alloc, standing, text)?;
@@ -81,6 +87,7 @@ fn filled(
             height,
         })
     } else {
+        drop(pixels);
         Err(bad(alloc, "pixels", INVALID_FIELD))
     }
 }
@@ -95,7 +102,11 @@ fn pixels(
 {
     match text {
         None => Ok(Some(standing.share()?)),
-        Some(text) => decoded(alloc, &text),
+        Some(text) => {
+            let bytes = decoded(alloc, &text);
+            drop(text);
+            bytes
+        }
     }
 }
 

@@ -83,7 +83,17 @@ fn moved(u: u32, speed: i32, age: u64) -> i64
     requires few { age < 2 ^ 33 }
     ensures value { result ≡ pos u +ℤ speed *ℤ pos age }
 {
-    i64::from(u) + i64::from(speed) * (age as i64)
+    i64::from(u) + way(speed, age)
+}
+
+/// How far the speed leads in so many frames.
+fn way(speed: i32, age: u64) -> i64
+    requires slow { (negsuc 63 ≤ℤ speed) × (speed ≤ℤ pos 64) }
+    requires few { age < 2 ^ 33 }
+    ensures value { result ≡ speed *ℤ pos age }
+    ensures near { (negsuc (2 ^ 40) ≤ℤ result) × (result ≤ℤ pos (2 ^ 40)) }
+{
+    i64::from(speed) * (age as i64)
 }
 
 fn is_in_first_half(place: i64, bar: u32) -> bool
