@@ -43,11 +43,15 @@ fn act<K: Sink>(
     };
     let canvas = engine.canvas();
     match engine.act(alloc, from, action) {
-        Ok(Some(answer)) => match put_reply(alloc, out, canvas, &answer.reply) {
-            Wrote::All => None,
-            Wrote::WriteFault => Some(Ended::WriteFault),
-            Wrote::NoMemory => Some(Ended::NoMemory),
-        },
+        Ok(Some(answer)) => {
+            let wrote = put_reply(alloc, out, canvas, &answer.reply);
+            drop(answer);
+            match wrote {
+                Wrote::All => None,
+                Wrote::WriteFault => Some(Ended::WriteFault),
+                Wrote::NoMemory => Some(Ended::NoMemory),
+            }
+        }
         Ok(None) => Some(refuse(alloc, out, number)),
         Err(ActFault::NoMemory) => Some(Ended::NoMemory),
         Err(ActFault::HistoryFull { .. }) => unreachable!(),
@@ -91,6 +95,55 @@ fn limit_of(limits: Limits, number: u64, room: u64) -> u64
     if number - 1 < limits.turns { room } else { 0 }
 }
 
+/// Does all lines of a script, with an engine that has done nothing yet and nothing read ahead.
+fn each_line<S: Source, K: Sink>(
+    alloc: Global,
+    engine: &mut Engine,
+    limits: Limits,
+    ahead: &mut ReadAhead,
+    line: &mut Vec<u8>,
+    script: &mut S,
+    out: &mut K,
+) -> Ended
+    requires opened { engine.old.journal ≡ [] }
+    requires same { engine.old.limits ≡ limits }
+    requires limits { IsTrue (are_limits limits) }
+    requires nothing { ahead.old ≡ [] }
+    ensures ends { S.Tells → K.Tells → Ends result (K.held out.old) (K.held out.new)
+        (run limits engine.old.start [] limits.bytes (lines_of (S.left script.old))) }
+    ensures drained { S.Tells → result ≡ Ended.Whole Finished.Done → S.left script.new ≡ [] }
+    ensures later { S.faults script.old ≤ S.faults script.new }
+    ensures later_out { K.faults out.old ≤ K.faults out.new }
+    ensures read { result ≡ Ended.ReadFault → Rose (S.faults script.old) (S.faults script.new) }
+    ensures write { result ≡ Ended.WriteFault → Rose (K.faults out.old) (K.faults out.new) }
+    ensures steady { result ≢ Ended.ReadFault → S.faults script.new ≡ S.faults script.old }
+    ensures steady_out { result ≢ Ended.WriteFault → K.faults out.new ≡ K.faults out.old }
+{
+    let mut number: u64 = 1;
+    let mut room = limits.bytes;
+    'lines: loop {
+        let limit = limit_of(limits, number, room);
+        match ahead.next_line(script, limit, line) {
+            Met::Whole => {
+                if let Some(ended) = take_turn(alloc, engine, line.as_slice(), number, out) {
+                    return ended;
+                }
+                number += 1;
+                room -= line.len() as u64 + 1;
+            }
+            Met::Last => {
+                if line.is_empty() {
+                    return Ended::Whole(Finished::Done);
+                }
+                return refuse(alloc, out, number);
+            }
+            Met::Past => return fill(out),
+            Met::Failed => return Ended::ReadFault,
+            Met::NoMemory => return Ended::NoMemory,
+        }
+    }
+}
+
 /// Runs a script with an engine that has done nothing yet.
 pub fn replay<S: Source, K: Sink>(
     alloc: Global,
@@ -113,30 +166,21 @@ pub fn replay<S: Source, K: Sink>(
     ensures steady_out { result ≢ Ended.WriteFault → K.faults out.new ≡ K.faults out.old }
 {
     let Ok(mut ahead) = ReadAhead::new(alloc) else {
+        drop(engine);
         return Ended::NoMemory;
     };
     let mut line = Vec::new(alloc);
-    let mut number: u64 = 1;
-    let mut room = limits.bytes;
-    'lines: loop {
-        let limit = limit_of(limits, number, room);
-        match ahead.next_line(script, limit, &mut line) {
-            Met::Whole => {
-                if let Some(ended) = take_turn(alloc, &mut engine, line.as_slice(), number, out) {
-                    return ended;
-                }
-                number += 1;
-                room -= line.len() as u64 + 1;
-            }
-            Met::Last => {
-                if line.is_empty() {
-                    return Ended::Whole(Finished::Done);
-                }
-                return refuse(alloc, out, number);
-            }
-            Met::Past => return fill(out),
-            Met::Failed => return Ended::ReadFault,
-            Met::NoMemory => return Ended::NoMemory,
-        }
-    }
+    let ended = each_line(
+        alloc,
+        &mut engine,
+        limits,
+        &mut ahead,
+        &mut line,
+        script,
+        out,
+    );
+    drop(line);
+    drop(ahead);
+    drop(engine);
+    ended
 }

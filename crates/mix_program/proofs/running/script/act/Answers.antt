@@ -2,8 +2,8 @@ use Rattle.mix_program.proofs.Runs.{was_tried, act_goes, act_stops, reply_painta
 use Rattle.mix_program.proofs.running.script.act.Goals as goal
 
 -- the shot of the answer can be painted
-pub put_reply-requires-clause-paintable : goal.put_reply-requires-clause-paintable
-put_reply-requires-clause-paintable g c = reply_paintable _ _ _ _ _
+pub put_reply-wrote-requires-clause-paintable : goal.put_reply-wrote-requires-clause-paintable
+put_reply-wrote-requires-clause-paintable g c = reply_paintable _ _ _ _ _
     (was_tried c.in-Ok-Some.field-0
     c.in-Ok-Some.answer c.args.engine.now c.act.new.self c.args.number c.args.action
     c.in-Ok-Some.field-0-is c.in-Ok-Some.ensures.built c.in-Ok-Some.ensures.reply
@@ -31,8 +31,8 @@ returns-in-WriteFault-clause-turned g c = λ tells rest. act_stops c.canvas-canv
     c.in-Ok-Some.ensures.state)
     (c.in-WriteFault.ensures.bytes tells)
 
-pub returns-in-Ok-Some-clause-turned : goal.returns-in-Ok-Some-clause-turned
-returns-in-Ok-Some-clause-turned g c = λ tells rest. act_stops c.canvas-canvas.result
+pub returns-in-NoMemory-clause-turned : goal.returns-in-NoMemory-clause-turned
+returns-in-NoMemory-clause-turned g c = λ tells rest. act_stops c.canvas-canvas.result
     c.in-Ok-Some.answer c.args.engine.now c.act.new.self c.args.number c.args.action rest _ _
     c.canvas-canvas.ensures.value
     (was_tried c.in-Ok-Some.field-0

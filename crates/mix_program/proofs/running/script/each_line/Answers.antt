@@ -3,7 +3,7 @@ use Rattle.std.proofs.lemmas.Grind.{common_steps}
 use Rattle.std.proofs.lemmas.Bool.Decides.{nat_tests}
 use Rattle.mix_program.proofs.Runs.{whole_ends, whole_goes, past_ends, cut_ends, limit_is, fits_line}
 use Rattle.mix_program.proofs.Runs.{last_ends, no_longer, second_empty}
-use Rattle.mix_program.proofs.running.script.replay.Goals as goal
+use Rattle.mix_program.proofs.running.script.each_line.Goals as goal
 
 pub returns-in-Some-clause-ends : goal.returns-in-Some-clause-ends
 returns-in-Some-clause-ends g c = λ s k. whole_ends _ _ _ _ c.args.limits _ _ _ _ _
@@ -41,18 +41,18 @@ lines-preserved g c =
     ap length c.as_slice.ensures.value in
     let fits : (c.lines.number - 1 < c.args.limits.turns) × (length c.next_line.new.line.items < c.lines.room) =
     fits_line _ _ _ _ _ c.limit_of-limit.ensures.value c.in-Whole.ensures.fits in
-    let follows = c.in_default-take_turn.ensures.follows in
+    let follows = c.in_default.ensures.follows in
     record {
       goes = λ s k. let w = whole_goes _ _ _ _ c.args.limits _ _ _ _ _
           (limit_is c.args.limits _ _ _ _ c.lines.invariant.number c.limit_of-limit.ensures.value)
           (c.lines.invariant.goes s k) _ _ _ (c.in-Whole.ensures.lines s) c.in-Whole.ensures.fits
-          (rw c.as_slice.ensures.value at (c.in_default-take_turn.ensures.turned k)) in
+          (rw c.as_slice.ensures.value at (c.in_default.ensures.turned k)) in
           let n : c.len.result ≡ length c.next_line.new.line.items = omega arith in rw (follows.0, n) w;
       number = omega (arith, follows.2);
       bytes = omega (arith, follows.3);
       same = follows.1 ∙ c.lines.invariant.same;
       count = omega arith;
       reads = c.in-Whole.ensures.steady (λ e. absurd (grind arith)) ∙ c.lines.invariant.reads;
-      writes = c.in_default-take_turn.ensures.steady (λ e. absurd (grind arith))
+      writes = c.in_default.ensures.steady (λ e. absurd (grind arith))
           ∙ c.lines.invariant.writes;
     }

@@ -3,7 +3,7 @@ use Rattle.mix_outside.specs.Lines.{lines_of}
 use Rattle.mix_engine.specs.Engines.{text_bytes}
 use Rattle.mix_program.specs.Run.{run}
 use Rattle.mix_program.specs.Ends.{Goes}
-use Rattle.mix_program.proofs.running.script.replay.Given as goal
+use Rattle.mix_program.proofs.running.script.each_line.Given as goal
 
 abbrev pub invariant-lines : goal.invariant-lines
 invariant-lines g l = record {
