@@ -4,4 +4,4 @@ use Rattle.mix_events.specs.Sayable.{IsSayableDone}
 use Rattle.mix_talks.proofs.responses.push_results.Given as goal
 
 abbrev pub invariant-loop-place : goal.invariant-loop-place
-invariant-loop-place l = All IsSayableDone l.results.now.items
+invariant-loop-place l = All IsSayableDone l.results.items
