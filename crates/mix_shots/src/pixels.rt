@@ -47,7 +47,7 @@ pub struct Samples;
 impl Table for Samples {
     fn found(&self, alloc: Global, line: &str) -> Result<String, NoMemory> {
         if cell(line, 1) == "none" {
-            return sample_text(alloc, &Settings::None, whole(line, 3));
+            return silence(alloc, whole(line, 3));
         }
         let Some(settings) = valid_settings(alloc, cell(line, 1), cell(line, 2))? else {
             return Ok(String::from_str(alloc, "no settings")?);
@@ -56,6 +56,12 @@ impl Table for Samples {
         drop(settings);
         found
     }
+}
+
+/// What a source without settings says.
+#[tactic(auto, unfolding(mix_model::specs::Values::are_valid))]
+fn silence(alloc: Global, place: i64) -> Result<String, NoMemory> {
+    sample_text(alloc, &Settings::None, place)
 }
 
 fn sample_text(alloc: Global, settings: &Settings, place: i64) -> Result<String, NoMemory>
