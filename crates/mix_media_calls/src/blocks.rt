@@ -12,8 +12,8 @@ use std::fmt::Write;
 const SAMPLES: usize = 2048;
 
 /// Cells: a track's samples in runs `SAMPLExFRAMES`, then the number of the block, the number of the
-/// track from 1, and the tones that are heard, with `; ` between them: level, half a period, volume,
-/// tracks, offset, and the weight w of n.
+/// track from 1, and the one or two tones that are heard, with `; ` between them: level, half a
+/// period, volume, tracks, offset, and the weight w of n.
 pub struct Blocks;
 
 impl Table for Blocks {

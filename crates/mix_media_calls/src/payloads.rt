@@ -21,13 +21,7 @@ impl Table for Pictures {
         let width = cell(line, 2).parse::<u16>().unwrap_or(0);
         let height = cell(line, 3).parse::<u16>().unwrap_or(0);
         let rgba = bytes_of(alloc, cell(line, 4))?;
-        written(
-            alloc,
-            cell(line, 1),
-            u32::from(width),
-            u32::from(height),
-            rgba,
-        )
+        written(alloc, cell(line, 1), width, height, rgba)
     }
 }
 
@@ -43,8 +37,8 @@ fn bytes_of(alloc: Global, digits: &str) -> Result<Vec<u8>, NoMemory> {
 fn written(
     alloc: Global,
     format: &str,
-    width: u32,
-    height: u32,
+    width: u16,
+    height: u16,
     rgba: Vec<u8>,
 ) -> Result<String, NoMemory> {
     let Some(picture) = picture(width, height, rgba) else {
@@ -62,7 +56,7 @@ fn written(
 }
 
 /// The picture, where there are as many bytes as its sides say.
-fn picture(width: u32, height: u32, rgba: Vec<u8>) -> Option<Picture>
+fn picture(width: u16, height: u16, rgba: Vec<u8>) -> Option<Picture>
     ensures whole { IfSome result (λ picture. IsTrue (is_picture picture)) }
 {
     let pixels = u64::from(width) * u64::from(height);
@@ -71,8 +65,8 @@ fn picture(width: u32, height: u32, rgba: Vec<u8>) -> Option<Picture>
         return None;
     }
     Some(Picture {
-        width,
-        height,
+        width: u32::from(width),
+        height: u32::from(height),
         rgba: ListOf::from_vec(rgba),
     })
 }

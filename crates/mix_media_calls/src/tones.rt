@@ -52,15 +52,39 @@ fn tone(given: Given) -> Option<Voice>
     })
 }
 
-/// The tones of a text, which `; ` stands between; one that is out of its ranges is left out.
+/// The tones of a text, one or two with `; ` between them; one that is out of its ranges is left out.
 pub fn tones(alloc: Global, text: &str) -> Result<VoiceList, NoMemory>
     ensures { IfOk result (λ voices. IsTrue (list_all is_voice voices)) }
 {
-    let mut voices = Vec::new(alloc);
-    for one in text.split("; ") {
-        if let Some(voice) = tone(given(one)) {
-            voices.push(voice)?;
-        }
+    let (first, second) = text.split_once("; ").unwrap_or((text, ""));
+    match tone(given(first)) {
+        Some(first) => with(alloc, first, second),
+        None => Ok(ListOf::from_vec(Vec::new(alloc))),
     }
-    Ok(ListOf::from_vec(voices))
+}
+
+/// A tone, and the one of a text.
+fn with(alloc: Global, first: Voice, second: &str) -> Result<VoiceList, NoMemory>
+    requires { IsTrue (is_voice first) }
+    ensures { IfOk result (λ voices. IsTrue (list_all is_voice voices)) }
+{
+    match tone(given(second)) {
+        Some(second) => two(alloc, first, second),
+        None => one(alloc, first),
+    }
+}
+
+fn one(alloc: Global, voice: Voice) -> Result<VoiceList, NoMemory>
+    requires { IsTrue (is_voice voice) }
+    ensures { IfOk result (λ voices. IsTrue (list_all is_voice voices)) }
+{
+    Ok(ListOf::from_vec(vec![in alloc; voice]?))
+}
+
+fn two(alloc: Global, first: Voice, second: Voice) -> Result<VoiceList, NoMemory>
+    requires first { IsTrue (is_voice first) }
+    requires second { IsTrue (is_voice second) }
+    ensures { IfOk result (λ voices. IsTrue (list_all is_voice voices)) }
+{
+    Ok(ListOf::from_vec(vec![in alloc; first, second]?))
 }
