@@ -4,6 +4,7 @@
 
 mod durations;
 mod fields;
+mod grown;
 mod lines;
 mod names;
 mod texts;
@@ -12,8 +13,9 @@ mod uuids;
 
 use durations::Durations;
 use fields::{FieldTable, Ranges};
+use grown::Grown;
 use lines::Lines;
-use mix_tables::{Trouble, go};
+use mix_tables::{Trouble, go, go_through};
 use names::Names;
 use std::process::ExitCode;
 use texts::{LongTexts, Texts};
@@ -25,10 +27,13 @@ fn run(rt: &HostRuntime) -> Result<(), Trouble> {
     go(rt, "uuids", &Uuids)?;
     go(rt, "durations", &Durations)?;
     go(rt, "texts", &Texts)?;
+    go(rt, "readings", &Texts)?;
     go(rt, "long_texts", &LongTexts)?;
+    go(rt, "megabytes", &LongTexts)?;
     go(rt, "fields", &FieldTable)?;
     go(rt, "ranges", &Ranges)?;
     go(rt, "trees", &Trees)?;
+    go_through(rt, "grown", "trees", &Grown)?;
     go(rt, "lines", &Lines)
 }
 

@@ -1,12 +1,30 @@
 //! JSON texts both ways.
 use mix_base::NoMemory;
-use mix_json::{JsonFault, read};
+use mix_json::{JsonFault, JsonReader};
 use mix_tables::{Table, cell, decoded, pieces, written};
 use std::alloc::Global;
 
+/// What the reader reads before each other text; nothing of it shows.
+const BEFORE: &str = "{\"\\u0062\":[\"\\tx\",123456789],\"a\":{}}";
+
 /// What bytes are written as that stand for a JSON value, or `refused`.
 fn again(alloc: Global, bytes: &[u8]) -> Result<String, NoMemory> {
-    match read(alloc, bytes) {
+    let mut reader = JsonReader::new(alloc)?;
+    let before = reader.read(BEFORE.as_bytes());
+    let was_read = before.is_ok();
+    drop(before);
+    let found = if was_read {
+        again_by(alloc, &mut reader, bytes)
+    } else {
+        Err(NoMemory)
+    };
+    drop(reader);
+    found
+}
+
+/// The same by a reader.
+fn again_by(alloc: Global, reader: &mut JsonReader, bytes: &[u8]) -> Result<String, NoMemory> {
+    match reader.read(bytes) {
         Ok(value) => {
             let text = written(alloc, &value);
             drop(value);

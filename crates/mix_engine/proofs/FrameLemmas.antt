@@ -1,8 +1,8 @@
 -- Taking a frame and giving one back, over the sources and the studio.
-use Rattle.std.proofs.Common.{◌≡◌, ℕ, ◌+◌, ◌<◌, ◌≤◌, Bool, true, false, cond, not, ◌&&◌, ◌||◌}
-use Rattle.std.proofs.Common.{List, [], ◌∷◌, ◌++◌, map, filter, find, length, IsTrue}
-use Rattle.std.proofs.Common.{Option, Some, None, refl, sym, ap, ◌∙◌, arith, ◌==◌, eq-eqb}
-use Rattle.std.proofs.Common.{eqb-true, append-nil, option_map, zero, suc, drop, flat_map, get_or}
+use Rattle.std.proofs.Common.{◌≡◌, ℕ, ◌+◌, ◌<◌, ◌≤◌, Bool, true, false, not}
+use Rattle.std.proofs.Common.{List, [], ◌∷◌, ◌++◌, length, IsTrue}
+use Rattle.std.proofs.Common.{refl, sym, ap, ◌∙◌, arith, ◌==◌}
+use Rattle.std.proofs.Common.{eqb-true, append-nil, zero, suc, drop, flat_map, get_or}
 use Rattle.std.proofs.Common.{append_assoc, add-one}
 use Rattle.std.proofs.Common.{Result, Ok, Err, IsErr, is_ok, OnOk, OnErr, ◌↔◌}
 use Rattle.std.proofs.Math.Seq.{drop-cons}
@@ -10,166 +10,23 @@ use Rattle.std.specs.Prelude.{nat_lt, slice_index_or}
 use Rattle.std.specs.Option.{option_map_or}
 use Rattle.std.specs.List.{list_all, list_any}
 use Rattle.std.proofs.lemmas.Bool.{ltb-true}
-use Rattle.std.proofs.lemmas.List.Folds.{list_any-append}
-use Rattle.mix_model.specs.declared.row.Row.{Row}
-use Rattle.mix_model.specs.Sets.{has, agree, rises_above}
-use Rattle.mix_model.specs.Rows.{is_at, serials_of}
+use Rattle.mix_model.specs.Sets.{has, agree}
 use Rattle.mix_model.specs.State.{GraphState, Channel, Frame}
-use Rattle.mix_model.specs.Lookups.{row_of, registry, named_by}
-use Rattle.mix_model.specs.Holders.{is_held, names, shows_some, is_on, lists}
-use Rattle.mix_model.specs.Walks.{is_active, active_rows}
-use Rattle.mix_model.specs.Settle.{settle, with_since, since_before, newly_dying}
+use Rattle.mix_model.specs.Lookups.{row_of, named_by}
+use Rattle.mix_model.specs.Walks.{is_active}
+use Rattle.mix_model.specs.Settle.{settle}
 use Rattle.mix_model.specs.Marks.{GraphModel, Mark, actions_begun, edited, settled_by, marks_of}
-use Rattle.mix_model.specs.Marks.{mark_of, was_active}
+use Rattle.mix_model.specs.Marks.{was_active}
 use Rattle.mix_model.specs.Edits.{clock_set, frame_held, frame_released}
 use Rattle.mix_model.specs.Pictures.{side_roots}
 use Rattle.mix_model.specs.Shape.{GraphShape}
-use Rattle.mix_model.proofs.SetLemmas.{and_first, and_second, or_left, found_test}
+use Rattle.mix_model.proofs.SetLemmas.{and_first, and_second}
 use Rattle.mix_model.proofs.MarkLemmas.{marks_suffice}
-
--- ---- settling leaves what keeps its rows, its activity and its holders
-
--- rows whose serials rise are found by their serials
-sinces_stand : (f : ℕ → ℕ) (m : ℕ) (rows : List Row) → rises_above m (serials_of rows) ≡ true →
-    ((x : ℕ) → m < x → f x ≡ option_map_or (λ (r : Row). r.since) (find (is_at x) rows) 0) →
-    map (λ (r : Row). record r { since = f r.serial }) rows ≡ rows
-sinces_stand f m [] rise same = refl
-sinces_stand f m (r ∷ rows) rise same =
-    let above : m < r.serial = ltb-true m r.serial (and_first _ _ rise) in
-    let here : f r.serial ≡ r.since = same r.serial above
-    ∙ ap (λ b. option_map_or (λ (s : Row). s.since) (cond b (Some r) (find (is_at r.serial) rows)) 0)
-    (eq-eqb r.serial r.serial refl) in
-    ap (λ n. record r { since = n } ∷ map (λ (s : Row). record s { since = f s.serial }) rows) here
-    ∙ ap (λ rs. r ∷ rs) (sinces_stand f r.serial rows (and_second _ _ rise) (λ x later.
-    same x (omega (arith, above, later))
-    ∙ ap (λ b. option_map_or (λ (s : Row). s.since) (cond b (Some r) (find (is_at x) rows)) 0)
-    (differs r.serial x (r.serial == x) refl later)))
-  where
-    differs : (a x : ℕ) (b : Bool) → (a == x) ≡ b → a < x → b ≡ false
-    differs a x true is later = let same : a ≡ x = eqb-true a x is in
-        absurd (omega (arith, same, later))
-    differs a x false is later = refl
-
--- a row that was active stays so, and none becomes it
-since_same : (a : Bool) (c d : ℕ) → cond (a && not a) c d ≡ d
-since_same true c d = refl
-since_same false c d = refl
-
-map_same : (f h : Row → Row) → ((r : Row) → f r ≡ h r) → (rows : List Row) → map f rows ≡ map h rows
-map_same f h same [] = refl
-map_same f h same (r ∷ rows) = rw (same r, map_same f h same rows) refl
-
--- what is held later is no less, so nothing begins to die
-stays : (h l d : Bool) → (h ≡ true → l ≡ true) → agree d (not h) ≡ true →
-    (not l && not d) ≡ false
-stays true l d more was = rw (more refl) refl
-stays false true d more was = refl
-stays false false true more was = refl
-stays false false false more was = cc
-
-none_die : (held later dies : ℕ → Bool) → ((x : ℕ) → held x ≡ true → later x ≡ true) →
-    (rows : List Row) → list_all (λ r. agree (dies r.serial) (not (held r.serial))) rows ≡ true →
-    filter (λ x. not (later x) && not (dies x)) (serials_of rows) ≡ []
-none_die held later dies more [] all = refl
-none_die held later dies more (r ∷ rows) all =
-    ap (λ b. cond b (r.serial ∷ filter (λ x. not (later x) && not (dies x)) (serials_of rows))
-    (filter (λ x. not (later x) && not (dies x)) (serials_of rows)))
-    (stays (held r.serial) (later r.serial) (dies r.serial) (more r.serial) (and_first _ _ all))
-    ∙ none_die held later dies more rows (and_second _ _ all)
-
--- the sources with these rows, and these that die
-abbrev with_parts : GraphState → List Row → List ℕ → GraphState
-with_parts h rows dying = record h { rows = rows; dying = dying }
-
-pub settles_still : (g h : GraphState) → GraphShape g → h.rows ≡ g.rows → h.dying ≡ g.dying →
-    ((x : ℕ) → is_active h x ≡ is_active g x) →
-    ((x : ℕ) → is_held g x ≡ true → is_held h x ≡ true) → settle g h ≡ h
-unfolding settle newly_dying with_since
-settles_still g h shape rows dying active held =
-    let kept : map (with_since g h) h.rows ≡ h.rows =
-    ap (map (with_since g h)) rows
-    ∙ map_same (with_since g h) (λ (r : Row). record r { since = since_before g r.serial })
-    (λ r. ap (λ n. record r { since = n })
-    (ap (λ b. cond (b && not (is_active g r.serial)) h.clock (since_before g r.serial))
-    (active r.serial)
-    ∙ since_same (is_active g r.serial) h.clock (since_before g r.serial))) g.rows
-    ∙ sinces_stand (since_before g) 0 g.rows shape.serials_rise (λ x above. refl)
-    ∙ sym rows in
-    let none : newly_dying h ≡ [] =
-    ap (λ rs. filter (λ x. not (is_held h x) && not (has x h.dying)) (serials_of rs)) rows
-    ∙ ap (λ ds. filter (λ x. not (is_held h x) && not (has x ds)) (serials_of g.rows)) dying
-    ∙ none_die (is_held g) (is_held h) (λ x. has x g.dying) held g.rows shape.dying_unheld in
-    ap (λ rs. with_parts h rs (h.dying ++ newly_dying h)) kept
-    ∙ ap (λ ds. with_parts h h.rows (h.dying ++ ds)) none
-    ∙ ap (with_parts h h.rows) (append-nil h.dying)
-
--- ---- a frame more
-
-held_more : (a b c d e f : Bool) → (e ≡ true → f ≡ true) →
-    (a || (b || (c || (d || e)))) ≡ true → (a || (b || (c || (d || f)))) ≡ true
-held_more true b c d e f more h = refl
-held_more false true c d e f more h = refl
-held_more false false true d e f more h = refl
-held_more false false false true e f more h = refl
-held_more false false false false e f more h = more h
-
-frame_holds_more : (n : ℕ) (g : GraphState) (x : ℕ) → is_held g x ≡ true →
-    is_held (frame_held n g) x ≡ true
-unfolding frame_held is_held
-frame_holds_more n g x h =
-    let new : Frame = record { number = n; serials = active_rows g } in
-    held_more (has x (registry g)) (list_any (names x) g.channels)
-    (list_any (shows_some x) g.rows) (list_any (is_on x) g.holds) (list_any (lists x) g.frames)
-    (list_any (lists x) (g.frames ++ new ∷ []))
-    (λ listed. list_any-append (lists x) g.frames (new ∷ [])
-    ∙ or_left (list_any (lists x) g.frames) (list_any (lists x) (new ∷ [])) listed) h
-
-frame_active : (n : ℕ) (g : GraphState) (x : ℕ) → is_active (frame_held n g) x ≡ is_active g x
-unfolding frame_held is_active
-frame_active n g x = refl
-
-clock_active : (c : ℕ) (g : GraphState) (x : ℕ) → is_active (clock_set c g) x ≡ is_active g x
-unfolding clock_set is_active
-clock_active c g x = refl
-
-clock_holds : (c : ℕ) (g : GraphState) (x : ℕ) → is_held (clock_set c g) x ≡ is_held g x
-unfolding clock_set is_held
-clock_holds c g x = refl
-
-frame_rows : (n : ℕ) (g : GraphState) → (frame_held n g).rows ≡ g.rows
-unfolding frame_held
-frame_rows n g = refl
-
-frame_dying : (n : ℕ) (g : GraphState) → (frame_held n g).dying ≡ g.dying
-unfolding frame_held
-frame_dying n g = refl
-
-clock_rows : (c : ℕ) (g : GraphState) → (clock_set c g).rows ≡ g.rows
-unfolding clock_set
-clock_rows c g = refl
-
-clock_dying : (c : ℕ) (g : GraphState) → (clock_set c g).dying ≡ g.dying
-unfolding clock_set
-clock_dying c g = refl
-
--- a frame that is held is settled, and so it is under a later clock
-pub held_still : (n : ℕ) (g : GraphState) → GraphShape g → settle g (frame_held n g) ≡ frame_held n g
-held_still n g shape = settles_still g (frame_held n g) shape (frame_rows n g) (frame_dying n g)
-    (frame_active n g) (frame_holds_more n g)
-
-pub taken_still : (n c : ℕ) (g : GraphState) → GraphShape g →
-    settle g (clock_set c (frame_held n g)) ≡ clock_set c (frame_held n g)
-taken_still n c g shape = settles_still g (clock_set c (frame_held n g)) shape
-    (clock_rows c (frame_held n g) ∙ frame_rows n g)
-    (clock_dying c (frame_held n g) ∙ frame_dying n g)
-    (λ x. clock_active c (frame_held n g) x ∙ frame_active n g x)
-    (λ x h. clock_holds c (frame_held n g) x ∙ frame_holds_more n g x h)
+use Rattle.mix_shape.proofs.UnchangedLemmas.{frame_active, held_still, taken_still}
+use Rattle.mix_shape.proofs.MarkedLemmas.{marked_row, active_of, all_agree}
+use Rattle.mix_shape.proofs.ActionLemmas.{begun_present}
 
 -- ---- the calls of an action that takes a frame
-
-pub begun_present : (m : GraphModel) → (actions_begun m).present ≡ m.present
-unfolding actions_begun
-begun_present m = refl
 
 held_present : (n : ℕ) (m : GraphModel) →
     (edited (frame_held n) (actions_begun m)).present ≡ settled_by (marks_of m.present)
@@ -238,34 +95,6 @@ clock_rises n old begun held begins is shape same =
     ap (λ (g : GraphState). g.clock) (held_settled n old begun held begins is shape)
     ∙ frame_clock n old.present in
     omega (arith, clock, same)
-
--- who is active was so
-marked_row : (g : GraphState) (x : ℕ) (rows : List Row) →
-    find (λ m. m.serial == x) (map (mark_of g) rows) ≡ option_map (mark_of g) (find (is_at x) rows)
-marked_row g x [] = refl
-marked_row g x (r ∷ rows) = elim (r.serial == x) as (λ b.
-    cond b (Some (mark_of g r)) (find (λ m. m.serial == x) (map (mark_of g) rows))
-    ≡ option_map (mark_of g) (cond b (Some r) (find (is_at x) rows))) [
-      | true ↦ refl
-      | false ↦ marked_row g x rows
-    ]
-
-active_of : (g : GraphState) (x : ℕ) (o : Option Row) → row_of g x ≡ o →
-    option_map_or (λ (m : Mark). m.active) (option_map (mark_of g) o) false ≡ is_active g x
-unfolding is_active
-active_of g x None found = rw found refl
-active_of g x (Some r) found =
-    ap (is_active g) (eqb-true r.serial x (found_test (is_at x) g.rows r found))
-
-agree_same : (b : Bool) → agree b b ≡ true
-agree_same true = refl
-agree_same false = refl
-
-all_agree : (was now : ℕ → Bool) → ((x : ℕ) → was x ≡ now x) → (rows : List Row) →
-    list_all (λ r. agree (was r.serial) (now r.serial)) rows ≡ true
-all_agree was now same [] = refl
-all_agree was now same (r ∷ rows) =
-    rw (same r.serial, agree_same (now r.serial)) (all_agree was now same rows)
 
 held_begun : (n : ℕ) (m : GraphModel) →
     (edited (frame_held n) (actions_begun m)).begun ≡ marks_of m.present

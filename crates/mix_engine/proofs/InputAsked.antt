@@ -1,28 +1,13 @@
 -- An input that is asked for: a name that is taken refuses it, and then its settings.
-use Rattle.std.proofs.Common.{◌≡◌, ◌∙◌, ℕ, List, Bool, true, false, refl, sym, ap, is_some}
-use Rattle.std.proofs.Common.{Option, Some, None, Result, Ok, Err, option_map}
+use Rattle.std.proofs.Common.{◌≡◌, ◌∙◌, ℕ, Bool, true, false, ap, Result, Ok, Err}
 use Rattle.mix_json.specs.Fields.{◌>>=◌, refused_if}
 use Rattle.mix_model.specs.declared.kind.Kind.{Kind}
-use Rattle.mix_model.specs.declared.row.Row.{Row}
 use Rattle.mix_model.specs.declared.settings.Settings.{Settings}
-use Rattle.mix_model.specs.Holders.{find_named, has_name, named_row_or_none}
-use Rattle.mix_model.specs.State.{GraphState, StudioState}
-use Rattle.mix_model.proofs.SetLemmas.{and_first, found_test}
+use Rattle.mix_model.specs.Holders.{has_name}
+use Rattle.mix_model.specs.State.{StudioState}
 use Rattle.mix_engine.specs.declared.input_made.InputMade.{InputMade}
 use Rattle.mix_engine.specs.InputRequests.{InputAsked, input_made, kind_sought, new_settings}
 use Rattle.mix_engine.specs.Sought.{scene_sought}
-
--- a name is taken where a look-up of its text finds it
-pub name_found : (g : GraphState) (name text : List ℕ) (found : Option ℕ) (taken : Bool) →
-    taken ≡ is_some found → found ≡ option_map (λ (r : Row). r.serial) (find_named g text) →
-    text ≡ name → taken ≡ has_name g name
-name_found g name text found taken is looks same =
-    is ∙ ap is_some looks ∙ each (find_named g text) refl ∙ ap (has_name g) same
-  where
-    each : (o : Option Row) → find_named g text ≡ o →
-        is_some (option_map (λ (r : Row). r.serial) o) ≡ named_row_or_none g o
-    each None finds = refl
-    each (Some r) finds = sym (and_first _ _ (found_test _ g.rows r finds))
 
 module _ (s : StudioState) (a : InputAsked) where
   -- with these settings, of this kind, in this scene

@@ -41,7 +41,8 @@ use Rattle.mix_engine.specs.Settled.{settling_events}
 use Rattle.mix_engine.specs.Spoken.{ItemsWithin}
 use Rattle.mix_engine.specs.Telling.{IsTwin, TellsEffect}
 use Rattle.mix_engine.proofs.EditLemmas.{settled_items}
-use Rattle.mix_engine.proofs.ProgramLemmas.{scene_below, scene_named, scene_passes, scene_row}
+use Rattle.mix_engine.proofs.ProgramLemmas.{scene_below}
+use Rattle.mix_shape.proofs.SceneLemmas.{scene_named, scene_passes, scene_row}
 use Rattle.mix_engine.proofs.TellingLemmas.{settling_unheard}
 
 -- ---- the next id of its scene

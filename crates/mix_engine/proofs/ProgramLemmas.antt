@@ -1,33 +1,27 @@
 -- A change of the program by a cut.
-use Rattle.std.proofs.Common.{◌≡◌, ◌∙◌, ◌≤◌, ◌<◌, ◌||◌, ◌&&◌, ◌==◌, ◌^◌, nat_lt, not, ℕ, zero, suc, List, [], ◌∷◌, ◌++◌, All, refl, sym}
-use Rattle.std.proofs.Common.{ap, subst, arith, take, length, Bool, true, false, is_some}
-use Rattle.std.proofs.Common.{inl, inr, Option, Some, None, slice_set, Result, Ok}
-use Rattle.std.specs.Option.{option_map_or}
-use Rattle.std.specs.List.{list_any, list_all}
+use Rattle.std.proofs.Common.{◌≡◌, ◌∙◌, ◌≤◌, ◌<◌, ◌==◌, ◌^◌, nat_lt, not, ℕ, zero, suc, List, []}
+use Rattle.std.proofs.Common.{◌∷◌, ◌++◌, All, refl, sym}
+use Rattle.std.proofs.Common.{ap, subst, arith, take, length, Bool, true, false}
+use Rattle.std.proofs.Common.{inl, inr, Some, None, slice_set, Result, Ok}
+use Rattle.std.specs.List.{list_all}
 use Rattle.std.proofs.lemmas.Bool.{eqb-true}
 use Rattle.std.proofs.lemmas.List.{append_assoc}
 use Rattle.std.proofs.lemmas.List.Elements.{All-nil, All-cons, All-append}
-use Rattle.std.proofs.lemmas.List.Folds.{list_any-append}
 use Rattle.mix_base.specs.declared.rate.Rate.{Rate}
 use Rattle.mix_model.specs.declared.event.Event.{Event}
 use Rattle.mix_model.specs.declared.event.Event.TheVariants as event
 use Rattle.mix_model.specs.declared.event.Twin.{Twin}
-use Rattle.mix_model.specs.declared.row.Row.{Row}
 use Rattle.mix_model.specs.declared.words.Transition.TheVariants.{Cut}
 use Rattle.mix_model.specs.Edits.{channel_set}
-use Rattle.mix_model.specs.Holders.{is_named, is_named_row, named_row_or_none}
-use Rattle.mix_model.specs.Lookups.{row_of, registry, named_by}
+use Rattle.mix_model.specs.Lookups.{registry}
 use Rattle.mix_model.specs.Program.{set_program}
-use Rattle.mix_model.specs.Rows.{is_at, is_scene}
 use Rattle.mix_model.specs.Sets.{has}
 use Rattle.mix_model.specs.Settle.{settle}
 use Rattle.mix_model.specs.Shape.{GraphShape}
 use Rattle.mix_model.specs.State.{Channel, GraphState, ProgramState, Rest}
 use Rattle.mix_model.specs.Studio.{program_set, studio_settled, with_program}
 use Rattle.mix_model.specs.WholeShape.{StudioShape}
-use Rattle.mix_model.proofs.DyingLemmas.{member_passes}
-use Rattle.mix_model.proofs.SetLemmas.{found_test, or_cases, or_left, or_right}
-use Rattle.mix_graph.specs.Refused.{may_be_set, is_missing}
+use Rattle.mix_model.proofs.SetLemmas.{or_cases}
 use Rattle.mix_events.specs.Sayable.{IsSayableEvent}
 use Rattle.mix_engine.specs.declared.still.Still.{Still}
 use Rattle.mix_engine.specs.ProgramRequests.{cut_events, program_change, program_changed}
@@ -46,46 +40,6 @@ use Rattle.mix_engine.specs.Telling.{IsOfActivity, IsTwin, Tells, TellsEffect, q
 use Rattle.mix_engine.proofs.EditLemmas.{settled_items}
 
 -- ---- scenes of the registry
-
-some_case : (test : Row → Bool) (o : Option Row) → option_map_or test o false ≡ true →
-    (r : Row) × (o ≡ Some r)
-some_case test None passed = cc
-some_case test (Some r) passed = (r, refl)
-
-module _ (g : GraphState) (shape : GraphShape g) (x : ℕ) (here : has x g.scenes ≡ true) where
-  pub scene_passes : option_map_or (λ r. is_scene r.kind) (row_of g x) false ≡ true
-  scene_passes = member_passes _ x g.scenes here shape.scenes_scenes
-
-  -- it is a row
-  pub scene_row : (r : Row) × (row_of g x ≡ Some r)
-  scene_row = some_case (λ r. is_scene r.kind) (row_of g x) scene_passes
-
-  pub scene_there : is_some (row_of g x) ≡ true
-  scene_there = ap is_some scene_row.1
-
-  -- a named one
-  pub scene_named : is_named g x ≡ true
-  unfolding is_named_row
-  scene_named =
-      let same : scene_row.0.serial ≡ x = eqb-true scene_row.0.serial x
-      (found_test (is_at x) g.rows scene_row.0 scene_row.1) in
-      ap (named_row_or_none g) scene_row.1
-      ∙ or_left _ _ (subst (λ y. has y (registry g) ≡ true) (sym same)
-      (list_any-append (λ y. y == x) g.scenes g.inputs ∙ or_left _ _ here))
-
-  pub scene_not_missing : list_any (is_missing g) (named_by (Some x, None)) ≡ true → ⊥
-  scene_not_missing missing = none (is_named g x) scene_named missing
-    where
-      none : (b : Bool) → b ≡ true → (not b || false) ≡ true → ⊥
-      none true is h = cc
-      none false is h = cc
-
-  -- channel 0 may name it
-  pub scene_may_be_set : may_be_set g 0 (Some x, None) ≡ true
-  scene_may_be_set = both (or_right _ _ scene_passes)
-    where
-      both : {b : Bool} → b ≡ true → (b && true) ≡ true
-      both is = rw is refl
 
 below_case : (n x : ℕ) (xs : List ℕ) → All (λ y. y < n) xs → has x xs ≡ true → x < n
 below_case n x [] all here = cc

@@ -13,7 +13,8 @@ use Rattle.mix_model.specs.Settle.{settle}
 use Rattle.mix_model.specs.Shape.{GraphShape}
 use Rattle.mix_engine.specs.Scenery.{HasScenes, KeepsStudio}
 use Rattle.mix_engine.specs.Spoken.{ItemsWithin}
-use Rattle.mix_engine.proofs.EditLemmas.{begun_same, items_more, kept_by, left_settled, settled_items}
+use Rattle.mix_shape.proofs.ActionLemmas.{begun_same, kept_by, left_settled}
+use Rattle.mix_engine.proofs.EditLemmas.{items_more, settled_items}
 
 -- each is below a number, and so is that number below the next one
 all_below : (xs : List ℕ) (n : ℕ) → All (λ x. x < n) xs → All (λ x. x < n + 1) (xs ++ n ∷ [])

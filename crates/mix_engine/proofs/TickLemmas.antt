@@ -34,7 +34,7 @@ use Rattle.mix_engine.specs.Step.{ticked, takes_frame, gives_back, is_in_flight}
 use Rattle.mix_engine.specs.Stills.{studio_of}
 use Rattle.mix_engine.specs.Telling.{IsOfActivity}
 use Rattle.mix_engine.proofs.EditLemmas.{settled_items}
-use Rattle.mix_engine.proofs.FrameLemmas.{taken_still}
+use Rattle.mix_shape.proofs.UnchangedLemmas.{taken_still}
 use Rattle.mix_engine.proofs.ListenerLemmas.{queued_heard, queued_nothing}
 use Rattle.mix_engine.proofs.MixingLemmas.{mixed_with, mixer_with, parts_after}
 use Rattle.mix_engine.proofs.MixingLemmas.{rests_mixing, ticked_mixing, only_left}

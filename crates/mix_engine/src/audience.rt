@@ -15,6 +15,7 @@ use crate::members::{close, enter, member_of};
 use mix_base::{Bytes32, ConnId, NoMemory};
 use mix_events::intent;
 use mix_fanout::Fanout;
+use mix_json::JsonReader;
 use mix_model::{Event, Message, Said, Twin};
 use mix_session::{Heard, Secret, Session};
 use std::alloc::Global;
@@ -87,10 +88,12 @@ impl Audience {
         }
     }
 
-    /// What a message of the connection comes to; none where it isn't open.
+    /// What a message of the connection comes to; none where it isn't open. The reader lends the room
+    /// that reading takes.
     pub fn hear(
         &self,
         alloc: Global,
+        reader: &mut JsonReader,
         conn: ConnId,
         message: &Message,
     ) -> Result<Option<Heard>, NoMemory>
@@ -100,7 +103,7 @@ impl Audience {
     {
         match member_of(self.members.as_slice(), conn) {
             None => Ok(None),
-            Some(member) => Ok(Some(member.session.hear(alloc, message)?)),
+            Some(member) => Ok(Some(member.session.hear(alloc, reader, message)?)),
         }
     }
 

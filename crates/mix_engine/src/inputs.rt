@@ -123,10 +123,7 @@ fn input_made(
         Ok(kind) => kind,
         Err(status) => return Ok(Err(status)),
     };
-    if graph
-        .find(&Text::from_str(alloc, asked.name.as_str())?)
-        .is_some()
-    {
+    if graph.has_name(&asked.name) {
         return Ok(Err(601));
     }
     match new_settings(alloc, still.canvas, kind, asked.settings)? {

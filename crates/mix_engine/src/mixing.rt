@@ -12,6 +12,7 @@ use crate::spoken::silent;
 use crate::{Audience, Own, Spoken, Still};
 use mix_base::{Bytes32, ConnId, NoMemory};
 use mix_graph::Graph;
+use mix_json::JsonReader;
 use mix_model::{Action, Ask, Message, Said};
 use mix_session::Heard;
 use std::alloc::Global;
@@ -36,6 +37,8 @@ pub struct Mixing {
     pub(crate) next_conn: u32,
     /// The clock of pictures, which the sources have too.
     pub(crate) clock: u64,
+    /// The room that reading a message takes.
+    pub(crate) reader: JsonReader,
 }
 
 impl Model for Mixing {
@@ -241,7 +244,7 @@ impl Mixing {
         match self.audience.is_cut(conn) {
             None => Ok(Some(self.gone(alloc, conn))),
             Some(true) => self.close(alloc, conn, SESSION_INVALIDATED),
-            Some(false) => match self.audience.hear(alloc, conn, message)? {
+            Some(false) => match self.audience.hear(alloc, &mut self.reader, conn, message)? {
                 None => unreachable!(),
                 Some(heard) => self.heard(alloc, conn, heard),
             },

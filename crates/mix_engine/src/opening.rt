@@ -15,6 +15,7 @@ ghost use Rattle.mix_engine.specs.Spoken.{ItemsWithin};
 use crate::{Audience, Mixing, Still};
 use mix_base::{Bytes32, Limits, Name, NoMemory, Serial, Text};
 use mix_graph::Graph;
+use mix_json::JsonReader;
 use mix_model::{Collection, GraphFault, ItemSpec, Kind, Line, Settings};
 use mix_session::Secret;
 use std::alloc::Global;
@@ -48,14 +49,25 @@ impl Mixing {
             drop(graph);
             return Err(NoMemory);
         };
+        let Ok(reader) = reading_room(alloc) else {
+            drop(graph);
+            drop(secret);
+            return Err(NoMemory);
+        };
         Ok(Some(Mixing {
             graph,
             still: still_of(collection, program),
             audience: Audience::new(alloc, secret),
             next_conn: 1,
             clock: 0,
+            reader,
         }))
     }
+}
+
+/// The room that reading messages takes.
+fn reading_room(alloc: Global) -> Result<JsonReader, NoMemory> {
+    JsonReader::new(alloc)
 }
 
 /// What an opening collection never changes later.

@@ -125,52 +125,49 @@ event_intent (event.InputActiveStateChanged input serial active) = active_state
 event_intent (event.InputShowStateChanged input serial showing) = show_state
 event_intent (event.SceneItemTransformChanged item place size scene serial) = transforms
 
--- the object `eventData`: of a custom event the given one, else the event's fields
+-- the fields of the object `eventData`, but for a custom event, whose object is given
+abbrev pub event_parts : Event → List Field
+event_parts (event.CustomEvent fields) = []
+event_parts (event.SceneCreated scene serial) = scene_came scene serial
+event_parts (event.SceneRemoved scene serial) = scene_came scene serial
+event_parts (event.SceneNameChanged old scene serial) = scene_renamed old scene serial
+event_parts (event.CurrentProgramSceneChanged scene serial) = scene_fields scene serial
+event_parts (event.CurrentPreviewSceneChanged scene serial) = scene_fields scene serial
+event_parts (event.InputCreated kind settings input serial) =
+    input_created kind settings input serial
+event_parts (event.InputRemoved input serial) = input_fields input serial
+event_parts (event.InputNameChanged old input serial) = input_renamed old input serial
+event_parts (event.InputSettingsChanged settings input serial) =
+    input_settings settings input serial
+event_parts (event.InputMuteStateChanged muted input serial) = input_muted muted input serial
+event_parts (event.InputVolumeChanged volume input serial) = input_volume volume input serial
+event_parts (event.InputAudioTracksChanged tracks input serial) = input_tracks tracks input serial
+event_parts (event.InputAudioSyncOffsetChanged offset input serial) =
+    input_offset offset input serial
+event_parts (event.CurrentSceneTransitionChanged transition) = transition_fields transition
+event_parts (event.SceneTransitionStarted transition) = transition_fields transition
+event_parts (event.SceneTransitionEnded transition) = transition_fields transition
+event_parts (event.CurrentSceneTransitionDurationChanged duration) = duration_fields duration
+event_parts (event.RecordStateChanged active word) = record_fields active word
+event_parts (event.SceneItemCreated item index scene serial source source_serial) =
+    item_created item index scene serial source source_serial
+event_parts (event.SceneItemRemoved item scene serial source source_serial) =
+    item_removed item scene serial source source_serial
+event_parts (event.SceneItemListReindexed items scene serial) = items_reindexed items scene serial
+event_parts (event.SceneItemEnableStateChanged enabled item scene serial) =
+    item_enabled enabled item scene serial
+event_parts (event.SceneItemLockStateChanged item locked scene serial) =
+    item_locked item locked scene serial
+event_parts (event.StudioModeStateChanged enabled) = studio_fields enabled
+event_parts (event.InputActiveStateChanged input serial active) = input_active input serial active
+event_parts (event.InputShowStateChanged input serial showing) = input_showing input serial showing
+event_parts (event.SceneItemTransformChanged item place size scene serial) =
+    item_transformed item place size.0 size.1 scene serial
+
+-- the object `eventData`: of a custom event the given one, else the one of its fields
 abbrev pub event_object : Event → Object
 event_object (event.CustomEvent fields) = fields
-event_object (event.SceneCreated scene serial) = obj_of (scene_came scene serial)
-event_object (event.SceneRemoved scene serial) = obj_of (scene_came scene serial)
-event_object (event.SceneNameChanged old scene serial) = obj_of (scene_renamed old scene serial)
-event_object (event.CurrentProgramSceneChanged scene serial) = obj_of (scene_fields scene serial)
-event_object (event.CurrentPreviewSceneChanged scene serial) = obj_of (scene_fields scene serial)
-event_object (event.InputCreated kind settings input serial) =
-    obj_of (input_created kind settings input serial)
-event_object (event.InputRemoved input serial) = obj_of (input_fields input serial)
-event_object (event.InputNameChanged old input serial) = obj_of (input_renamed old input serial)
-event_object (event.InputSettingsChanged settings input serial) =
-    obj_of (input_settings settings input serial)
-event_object (event.InputMuteStateChanged muted input serial) =
-    obj_of (input_muted muted input serial)
-event_object (event.InputVolumeChanged volume input serial) =
-    obj_of (input_volume volume input serial)
-event_object (event.InputAudioTracksChanged tracks input serial) =
-    obj_of (input_tracks tracks input serial)
-event_object (event.InputAudioSyncOffsetChanged offset input serial) =
-    obj_of (input_offset offset input serial)
-event_object (event.CurrentSceneTransitionChanged transition) =
-    obj_of (transition_fields transition)
-event_object (event.SceneTransitionStarted transition) = obj_of (transition_fields transition)
-event_object (event.SceneTransitionEnded transition) = obj_of (transition_fields transition)
-event_object (event.CurrentSceneTransitionDurationChanged duration) =
-    obj_of (duration_fields duration)
-event_object (event.RecordStateChanged active word) = obj_of (record_fields active word)
-event_object (event.SceneItemCreated item index scene serial source source_serial) =
-    obj_of (item_created item index scene serial source source_serial)
-event_object (event.SceneItemRemoved item scene serial source source_serial) =
-    obj_of (item_removed item scene serial source source_serial)
-event_object (event.SceneItemListReindexed items scene serial) =
-    obj_of (items_reindexed items scene serial)
-event_object (event.SceneItemEnableStateChanged enabled item scene serial) =
-    obj_of (item_enabled enabled item scene serial)
-event_object (event.SceneItemLockStateChanged item locked scene serial) =
-    obj_of (item_locked item locked scene serial)
-event_object (event.StudioModeStateChanged enabled) = obj_of (studio_fields enabled)
-event_object (event.InputActiveStateChanged input serial active) =
-    obj_of (input_active input serial active)
-event_object (event.InputShowStateChanged input serial showing) =
-    obj_of (input_showing input serial showing)
-event_object (event.SceneItemTransformChanged item place size scene serial) =
-    obj_of (item_transformed item place size.0 size.1 scene serial)
+event_object other = obj_of (event_parts other)
 
 -- an event: its object, its bit and its type
 unfoldable pub event_fields : Event → List Field

@@ -1,5 +1,5 @@
 -- The fields of the events on inputs.
-use Rattle.std.specs.Prelude.{ℕ, ℤ, List, [], ◌∷◌, Bool, not, ◌==◌, bit_and, codes}
+use Rattle.std.specs.Prelude.{ℕ, ℤ, List, [], ◌∷◌, ◌++◌, Bool, not, ◌==◌, bit_and, codes}
 use Rattle.mix_base.specs.declared.json.Json.TheVariants as json
 use Rattle.mix_base.specs.Json.{Object}
 use Rattle.mix_base.specs.Uuids.{uuid_of}
@@ -18,17 +18,22 @@ input_fields name serial =
 unfoldable pub input_created : Kind → Object → List ℕ → ℕ → List Field
 input_created kind settings name serial =
     text (codes "inputKind") (kind_id kind)
+    ∷ text (codes "inputName") name
     ∷ value (codes "inputSettings") (json.Obj settings)
-    ∷ input_fields name serial
+    ∷ text (codes "inputUuid") (uuid_of serial)
+    ∷ []
 
 -- an input got another name
 unfoldable pub input_renamed : List ℕ → List ℕ → ℕ → List Field
-input_renamed old name serial = text (codes "oldInputName") old ∷ input_fields name serial
+input_renamed old name serial = input_fields name serial ++ text (codes "oldInputName") old ∷ []
 
 -- an input got other settings: all its keys
 unfoldable pub input_settings : Object → List ℕ → ℕ → List Field
 input_settings settings name serial =
-    value (codes "inputSettings") (json.Obj settings) ∷ input_fields name serial
+    text (codes "inputName") name
+    ∷ value (codes "inputSettings") (json.Obj settings)
+    ∷ text (codes "inputUuid") (uuid_of serial)
+    ∷ []
 
 -- an input was muted, or isn't any more
 unfoldable pub input_muted : Bool → List ℕ → ℕ → List Field
@@ -37,7 +42,7 @@ input_muted muted name serial = flag (codes "inputMuted") muted ∷ input_fields
 -- an input got another volume, in thousandths
 unfoldable pub input_volume : ℕ → List ℕ → ℕ → List Field
 input_volume volume name serial =
-    number (codes "inputVolumeMilli") volume ∷ input_fields name serial
+    input_fields name serial ++ number (codes "inputVolumeMilli") volume ∷ []
 
 -- whether the mask has the bit of a track: 1 for the track 1, 2 for the track 2, 4 for the track 3,
 -- up to 32 for the track 6
@@ -67,9 +72,10 @@ input_offset offset name serial =
 
 -- an input became active, or isn't any more
 unfoldable pub input_active : List ℕ → ℕ → Bool → List Field
-input_active name serial active = flag (codes "videoActive") active ∷ input_fields name serial
+input_active name serial active =
+    input_fields name serial ++ flag (codes "videoActive") active ∷ []
 
 -- an input became showing, or isn't any more
 unfoldable pub input_showing : List ℕ → ℕ → Bool → List Field
 input_showing name serial showing =
-    flag (codes "videoShowing") showing ∷ input_fields name serial
+    input_fields name serial ++ flag (codes "videoShowing") showing ∷ []

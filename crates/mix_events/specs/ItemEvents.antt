@@ -78,25 +78,23 @@ crop_fields place =
     ∷ number (codes "cropTop") place.crop_top
     ∷ []
 
--- where an item stands
-abbrev pub position_fields : Place → List Field
-position_fields place =
-    integer (codes "positionX") place.x ∷ integer (codes "positionY") place.y ∷ []
-
--- how an item is turned and scaled
-abbrev pub turn_fields : Place → List Field
-turn_fields place =
-    number (codes "rotation") (rotation_of place.quarter)
+-- how high its picture is after cropping and scaling, where it stands, and how it is turned and
+-- scaled
+abbrev pub position_fields : Place → ℕ → List Field
+position_fields place height =
+    number (codes "height")
+    (placed_side height place.crop_top place.crop_bottom place.scale_y)
+    ∷ integer (codes "positionX") place.x
+    ∷ integer (codes "positionY") place.y
+    ∷ number (codes "rotation") (rotation_of place.quarter)
     ∷ number (codes "scaleX") place.scale_x
     ∷ number (codes "scaleY") place.scale_y
     ∷ []
 
--- how large its source is, and how large its picture is after cropping and scaling
+-- how large its source is, and how wide its picture is after cropping and scaling
 abbrev pub size_fields : Place → ℕ → ℕ → List Field
 size_fields place width height =
-    number (codes "height")
-    (placed_side height place.crop_top place.crop_bottom place.scale_y)
-    ∷ number (codes "sourceHeight") height
+    number (codes "sourceHeight") height
     ∷ number (codes "sourceWidth") width
     ∷ number (codes "width")
     (placed_side width place.crop_left place.crop_right place.scale_x)
@@ -105,8 +103,7 @@ size_fields place width height =
 -- a transform as it is answered
 unfoldable pub transform_fields : Place → ℕ → ℕ → List Field
 transform_fields place width height =
-    crop_fields place ++ (position_fields place
-    ++ (turn_fields place ++ size_fields place width height))
+    crop_fields place ++ (position_fields place height ++ size_fields place width height)
 
 -- an item stands elsewhere
 unfoldable pub item_transformed : ℕ → Place → ℕ → ℕ → List ℕ → ℕ → List Field

@@ -31,9 +31,10 @@ authentication (Some login) = object (codes "authentication") (login_fields logi
 -- what a connection is greeted with: the versions, and what is needed to log in
 unfoldable pub hello_fields : Option Login → List Field
 hello_fields login =
-    text (codes "obsWebSocketVersion") version_text
+    authentication login
+    ++ text (codes "obsWebSocketVersion") version_text
     ∷ number (codes "rpcVersion") rpc_version
-    ∷ authentication login
+    ∷ []
 
 -- the connection is identified
 unfoldable pub identified_fields : List Field
@@ -47,7 +48,7 @@ comment code = if code == 100 then []
 -- `requestStatus`: the number, and whether it is success
 unfoldable pub status_fields : ℕ → List Field
 status_fields code =
-    number (codes "code") code ∷ flag (codes "result") (code == 100) ∷ comment code
+    number (codes "code") code ∷ comment code ++ flag (codes "result") (code == 100) ∷ []
 
 -- `requestId`, where the request had one
 abbrev pub request_id : Option (List ℕ) → List Field
@@ -62,9 +63,10 @@ response_data (Some answer) = value (codes "responseData") answer ∷ []
 -- what was done about a request
 unfoldable pub done_fields : Done → List Field
 done_fields done =
-    object (codes "requestStatus") (status_fields done.status)
+    request_id done.id
+    ++ object (codes "requestStatus") (status_fields done.status)
     ∷ text (codes "requestType") done.kind
-    ∷ request_id done.id ++ response_data done.response
+    ∷ response_data done.response
 
 -- what was done about a request of a batch
 abbrev pub done_json : Done → Json

@@ -1,14 +1,16 @@
 //! Events: their types, their bits and their objects.
-ghost use Rattle.std.specs.Prelude.{◌≡◌, IfOk};
+ghost use Rattle.std.specs.Prelude.{◌≡◌, OnOk, codes};
+ghost use Rattle.mix_base.specs.declared.json.Json as json;
+ghost use Rattle.mix_json.specs.Growing.{more_field, more_fields};
 ghost use Rattle.mix_json.specs.Trees.{obj_of};
 ghost use Rattle.mix_events.specs.Sayable.{IsSayableEvent};
-ghost use Rattle.mix_events.specs.Events.{event_fields, event_intent, event_object, event_type};
+ghost use Rattle.mix_events.specs.Events.{event_fields, event_intent, event_object};
+ghost use Rattle.mix_events.specs.Events.{event_parts, event_type};
 
 use crate::{inputs, items, others, scenes};
 use mix_base::NoMemory;
-use mix_json::Fields;
+use mix_json::JsonText;
 use mix_model::Event;
-use std::alloc::Global;
 
 /// The bit of an event in the mask `eventSubscriptions`: who has set it is told of the event.
 pub fn intent(event: &Event) -> u32
@@ -83,65 +85,62 @@ fn event_type(event: &Event) -> &'static str
     }
 }
 
-/// The object `eventData`.
-fn event_object(alloc: Global, event: &Event) -> Result<Fields, NoMemory>
+/// The fields of the object `eventData`, but for a custom event.
+fn with_parts(out: &mut JsonText, event: &Event) -> Result<(), NoMemory>
     requires { IsSayableEvent event.now }
-    ensures value { IfOk result (λ object. object ≡ event_object event.now) }
+    ensures value { OnOk result (out.new ≡ more_fields (event_parts event.now) out.old) }
 {
     match event {
-        Event::CustomEvent { fields } => Ok(Fields::from_obj(alloc, fields.copy(alloc)?)),
-        Event::SceneCreated { scene, serial } => scenes::came(alloc, scene, *serial),
-        Event::SceneRemoved { scene, serial } => scenes::came(alloc, scene, *serial),
-        Event::SceneNameChanged { old, scene, serial } => scenes::renamed(
-            alloc, old, scene, *serial,
+        Event::CustomEvent { .. } => Ok(()),
+        Event::SceneCreated { scene, serial } => scenes::came(out, scene, *serial),
+        Event::SceneRemoved { scene, serial } => scenes::came(out, scene, *serial),
+        Event::SceneNameChanged { old, scene, serial } => scenes::renamed(out, old, scene, *serial),
+        Event::CurrentProgramSceneChanged { scene, serial } => scenes::with_scene(
+            out, scene, *serial,
         ),
-        Event::CurrentProgramSceneChanged { scene, serial } => scenes::named(alloc, scene, *serial),
-        Event::CurrentPreviewSceneChanged { scene, serial } => scenes::named(alloc, scene, *serial),
+        Event::CurrentPreviewSceneChanged { scene, serial } => scenes::with_scene(
+            out, scene, *serial,
+        ),
         Event::InputCreated {
             kind,
             settings,
             input,
             serial,
-        } => inputs::created(alloc, *kind, settings, input, *serial),
-        Event::InputRemoved { input, serial } => inputs::named(alloc, input, *serial),
-        Event::InputNameChanged { old, input, serial } => inputs::renamed(
-            alloc, old, input, *serial,
-        ),
+        } => inputs::created(out, *kind, settings, input, *serial),
+        Event::InputRemoved { input, serial } => inputs::with_input(out, input, *serial),
+        Event::InputNameChanged { old, input, serial } => inputs::renamed(out, old, input, *serial),
         Event::InputSettingsChanged {
             settings,
             input,
             serial,
-        } => inputs::set(alloc, settings, input, *serial),
+        } => inputs::set(out, settings, input, *serial),
         Event::InputMuteStateChanged {
             muted,
             input,
             serial,
-        } => inputs::muted(alloc, *muted, input, *serial),
+        } => inputs::muted(out, *muted, input, *serial),
         Event::InputVolumeChanged {
             volume,
             input,
             serial,
-        } => inputs::volume(alloc, *volume, input, *serial),
+        } => inputs::volume(out, *volume, input, *serial),
         Event::InputAudioTracksChanged {
             tracks,
             input,
             serial,
-        } => inputs::tracks(alloc, *tracks, input, *serial),
+        } => inputs::tracks(out, *tracks, input, *serial),
         Event::InputAudioSyncOffsetChanged {
             offset,
             input,
             serial,
-        } => inputs::offset(alloc, *offset, input, *serial),
-        Event::CurrentSceneTransitionChanged { transition } => others::transition(
-            alloc,
-            *transition,
-        ),
-        Event::SceneTransitionStarted { transition } => others::transition(alloc, *transition),
-        Event::SceneTransitionEnded { transition } => others::transition(alloc, *transition),
+        } => inputs::offset(out, *offset, input, *serial),
+        Event::CurrentSceneTransitionChanged { transition } => others::transition(out, *transition),
+        Event::SceneTransitionStarted { transition } => others::transition(out, *transition),
+        Event::SceneTransitionEnded { transition } => others::transition(out, *transition),
         Event::CurrentSceneTransitionDurationChanged { duration } => others::duration(
-            alloc, *duration,
+            out, *duration,
         ),
-        Event::RecordStateChanged { active, word } => others::record(alloc, *active, *word),
+        Event::RecordStateChanged { active, word } => others::record(out, *active, *word),
         Event::SceneItemCreated {
             item,
             index,
@@ -149,60 +148,84 @@ fn event_object(alloc: Global, event: &Event) -> Result<Fields, NoMemory>
             serial,
             source,
             source_serial,
-        } => items::created(alloc, *item, *index, scene, *serial, source, *source_serial),
+        } => items::created(out, *item, *index, scene, *serial, source, *source_serial),
         Event::SceneItemRemoved {
             item,
             scene,
             serial,
             source,
             source_serial,
-        } => items::removed(alloc, *item, scene, *serial, source, *source_serial),
+        } => items::removed(out, *item, scene, *serial, source, *source_serial),
         Event::SceneItemListReindexed {
             items,
             scene,
             serial,
-        } => items::reindexed(alloc, items, scene, *serial),
+        } => items::reindexed(out, items, scene, *serial),
         Event::SceneItemEnableStateChanged {
             enabled,
             item,
             scene,
             serial,
-        } => items::enabled(alloc, *enabled, *item, scene, *serial),
+        } => items::enabled(out, *enabled, *item, scene, *serial),
         Event::SceneItemLockStateChanged {
             item,
             locked,
             scene,
             serial,
-        } => items::locked(alloc, *item, *locked, scene, *serial),
-        Event::StudioModeStateChanged { enabled } => others::studio(alloc, *enabled),
+        } => items::locked(out, *item, *locked, scene, *serial),
+        Event::StudioModeStateChanged { enabled } => others::studio(out, *enabled),
         Event::InputActiveStateChanged {
             input,
             serial,
             active,
-        } => inputs::active(alloc, input, *serial, *active),
+        } => inputs::active(out, input, *serial, *active),
         Event::InputShowStateChanged {
             input,
             serial,
             showing,
-        } => inputs::showing(alloc, input, *serial, *showing),
+        } => inputs::showing(out, input, *serial, *showing),
         Event::SceneItemTransformChanged {
             item,
             place,
             size,
             scene,
             serial,
-        } => items::transformed(alloc, *item, place, *size, scene, *serial),
+        } => items::transformed(out, *item, place, *size, scene, *serial),
+    }
+}
+
+/// With the object `eventData`, made of the event's fields.
+#[tactic(auto, using(crate::proofs::EventLemmas::parts_under))]
+fn with_made(out: &mut JsonText, event: &Event) -> Result<(), NoMemory>
+    requires { IsSayableEvent event.now }
+    ensures value { OnOk result (out.new ≡ more_field (codes "eventData")
+        (json.Obj (obj_of (event_parts event.now))) out.old) }
+{
+    out.key("eventData")?;
+    out.open()?;
+    with_parts(out, event)?;
+    out.close()
+}
+
+/// With the object `eventData`.
+fn with_object(out: &mut JsonText, event: &Event) -> Result<(), NoMemory>
+    requires { IsSayableEvent event.now }
+    ensures value { OnOk result (out.new
+        ≡ more_field (codes "eventData") (json.Obj (event_object event.now)) out.old) }
+{
+    match event {
+        Event::CustomEvent { fields } => out.kept("eventData", fields),
+        _ => with_made(out, event),
     }
 }
 
 /// The fields of an event's message.
 #[tactic(auto, unfolding(crate::specs::Events::event_fields))]
-pub fn event_fields(alloc: Global, event: &Event) -> Result<Fields, NoMemory>
+pub fn event_fields(out: &mut JsonText, event: &Event) -> Result<(), NoMemory>
     requires { IsSayableEvent event.now }
-    ensures value { IfOk result (λ fields. fields ≡ obj_of (event_fields event.now)) }
+    ensures value { OnOk result (out.new ≡ more_fields (event_fields event.now) out.old) }
 {
-    let object = event_object(alloc, event)?;
-    let fields = Fields::new(alloc).obj("eventData", object)?;
-    let fields = fields.int("eventIntent", i64::from(intent(event)))?;
-    fields.text("eventType", event_type(event))
+    with_object(out, event)?;
+    out.int("eventIntent", i64::from(intent(event)))?;
+    out.text("eventType", event_type(event))
 }

@@ -1,69 +1,69 @@
 //! What a connection is greeted with.
-ghost use Rattle.std.specs.Prelude.{◌≡◌, IfOk};
+ghost use Rattle.std.specs.Prelude.{◌≡◌, OnOk, codes};
 ghost use Rattle.base64.specs.Engines.{standard};
 ghost use Rattle.base64.specs.GeneralPurpose.{encode_of};
 ghost use Rattle.mix_base.specs.declared.json.Json as json;
-ghost use Rattle.mix_json.specs.Trees.{obj_of, put_fields, with_field};
+ghost use Rattle.mix_json.specs.Growing.{more_field, more_fields};
+ghost use Rattle.mix_json.specs.Trees.{obj_of};
 ghost use Rattle.mix_events.specs.Texts.{authentication, hello_fields, identified_fields};
 ghost use Rattle.mix_events.specs.Texts.{login_fields};
 
 use base64::engine::general_purpose::STANDARD;
 use mix_base::{Bytes32, NoMemory};
-use mix_json::Fields;
+use mix_json::JsonText;
 use mix_model::Login;
 use std::alloc::Global;
 
 /// With bytes in base64 (RFC 4648).
-fn with_bytes(alloc: Global, fields: Fields, key: &str, bytes: &Bytes32) -> Result<Fields, NoMemory>
-    ensures value { IfOk result
-        (λ all. all ≡ with_field key.now (json.Text (encode_of standard bytes.now)) fields) }
+fn with_bytes(alloc: Global, out: &mut JsonText, key: &str, bytes: &Bytes32) -> Result<(), NoMemory>
+    ensures value { OnOk result
+        (out.new ≡ more_field key.now (json.Text (encode_of standard bytes.now)) out.old) }
 {
-    let Ok(encoded) = STANDARD.encode(alloc, bytes.0.as_slice()) else {
-        drop(fields);
-        return Err(NoMemory);
-    };
-    let fields = fields.text(key, encoded.as_str());
+    let encoded = STANDARD.encode(alloc, bytes.0.as_slice())?;
+    let done = out.text(key, encoded.as_str());
     drop(encoded);
-    fields
+    done
 }
 
-/// The object `authentication`.
 #[tactic(auto, unfolding(crate::specs::Texts::login_fields))]
-fn login_of(alloc: Global, login: &Login) -> Result<Fields, NoMemory>
-    ensures value { IfOk result (λ fields. fields ≡ obj_of (login_fields login.now)) }
+fn with_each(alloc: Global, out: &mut JsonText, login: &Login) -> Result<(), NoMemory>
+    ensures value { OnOk result (out.new ≡ more_fields (login_fields login.now) out.old) }
 {
-    let fields = with_bytes(alloc, Fields::new(alloc), "challenge", &login.challenge)?;
-    with_bytes(alloc, fields, "salt", &login.salt)
+    with_bytes(alloc, out, "challenge", &login.challenge)?;
+    with_bytes(alloc, out, "salt", &login.salt)
+}
+
+fn with_login(alloc: Global, out: &mut JsonText, login: &Login) -> Result<(), NoMemory>
+    ensures value { OnOk result (out.new ≡ more_field (codes "authentication")
+        (json.Obj (obj_of (login_fields login.now))) out.old) }
+{
+    out.key("authentication")?;
+    out.open()?;
+    with_each(alloc, out, login)?;
+    out.close()
 }
 
 /// With what is needed to log in, where there is a secret.
-fn with_login(alloc: Global, fields: Fields, login: &Option<Login>) -> Result<Fields, NoMemory>
-    ensures value { IfOk result (λ all. all ≡ put_fields (authentication login.now) fields) }
+fn with_secret(alloc: Global, out: &mut JsonText, login: &Option<Login>) -> Result<(), NoMemory>
+    ensures value { OnOk result (out.new ≡ more_fields (authentication login.now) out.old) }
 {
     match login {
-        Some(login) => match login_of(alloc, login) {
-            Ok(login) => fields.obj("authentication", login),
-            Err(NoMemory) => {
-                drop(fields);
-                Err(NoMemory)
-            }
-        },
-        None => Ok(fields),
+        Some(login) => with_login(alloc, out, login),
+        None => Ok(()),
     }
 }
 
-#[tactic(auto, unfolding(crate::specs::Texts::hello_fields))]
-pub fn hello_fields(alloc: Global, login: &Option<Login>) -> Result<Fields, NoMemory>
-    ensures value { IfOk result (λ fields. fields ≡ obj_of (hello_fields login.now)) }
+pub fn hello(alloc: Global, out: &mut JsonText, login: &Option<Login>) -> Result<(), NoMemory>
+    ensures value { OnOk result (out.new ≡ more_fields (hello_fields login.now) out.old) }
 {
-    let fields = Fields::new(alloc).text("obsWebSocketVersion", "5.0.0")?;
-    let fields = fields.int("rpcVersion", 1)?;
-    with_login(alloc, fields, login)
+    with_secret(alloc, out, login)?;
+    out.text("obsWebSocketVersion", "5.0.0")?;
+    out.int("rpcVersion", 1)
 }
 
 #[tactic(auto, unfolding(crate::specs::Texts::identified_fields))]
-pub fn identified_fields(alloc: Global) -> Result<Fields, NoMemory>
-    ensures value { IfOk result (λ fields. fields ≡ obj_of identified_fields) }
+pub fn identified(out: &mut JsonText) -> Result<(), NoMemory>
+    ensures value { OnOk result (out.new ≡ more_fields identified_fields out.old) }
 {
-    Fields::new(alloc).int("negotiatedRpcVersion", 1)
+    out.int("negotiatedRpcVersion", 1)
 }

@@ -1,15 +1,13 @@
 //! The fields of the events on transitions, the recording and studio mode.
-ghost use Rattle.std.specs.Prelude.{◌≡◌, IfOk, codes};
-ghost use Rattle.mix_base.specs.declared.json.Json as json;
-ghost use Rattle.mix_json.specs.Trees.{obj_of, with_field};
+ghost use Rattle.std.specs.Prelude.{◌≡◌, OnOk};
+ghost use Rattle.mix_json.specs.Growing.{more_fields};
 ghost use Rattle.mix_model.specs.Texts.{transition_name};
 ghost use Rattle.mix_events.specs.OtherEvents.{duration_fields, fades, output_state};
 ghost use Rattle.mix_events.specs.OtherEvents.{record_fields, studio_fields, transition_fields};
 
 use mix_base::NoMemory;
-use mix_json::Fields;
+use mix_json::JsonText;
 use mix_model::{RecordWord, Transition};
-use std::alloc::Global;
 
 fn transition_text(transition: Transition) -> &'static str
     ensures { result.now ≡ transition_name (fades transition) }
@@ -21,17 +19,17 @@ fn transition_text(transition: Transition) -> &'static str
 }
 
 #[tactic(auto, unfolding(crate::specs::OtherEvents::transition_fields))]
-pub fn transition(alloc: Global, transition: Transition) -> Result<Fields, NoMemory>
-    ensures value { IfOk result (λ fields. fields ≡ obj_of (transition_fields transition)) }
+pub fn transition(out: &mut JsonText, transition: Transition) -> Result<(), NoMemory>
+    ensures value { OnOk result (out.new ≡ more_fields (transition_fields transition) out.old) }
 {
-    Fields::new(alloc).text("transitionName", transition_text(transition))
+    out.text("transitionName", transition_text(transition))
 }
 
 #[tactic(auto, unfolding(crate::specs::OtherEvents::duration_fields))]
-pub fn duration(alloc: Global, duration: u32) -> Result<Fields, NoMemory>
-    ensures value { IfOk result (λ fields. fields ≡ obj_of (duration_fields duration)) }
+pub fn duration(out: &mut JsonText, duration: u32) -> Result<(), NoMemory>
+    ensures value { OnOk result (out.new ≡ more_fields (duration_fields duration) out.old) }
 {
-    Fields::new(alloc).int("transitionDuration", i64::from(duration))
+    out.int("transitionDuration", i64::from(duration))
 }
 
 #[tactic(auto, unfolding(crate::specs::OtherEvents::output_state))]
@@ -46,25 +44,17 @@ fn output_state(word: RecordWord) -> &'static str
     }
 }
 
-fn with_state(fields: Fields, word: RecordWord) -> Result<Fields, NoMemory>
-    ensures value { IfOk result
-        (λ all. all ≡ with_field (codes "outputState") (json.Text (output_state word)) fields) }
+pub fn record(out: &mut JsonText, active: bool, word: RecordWord) -> Result<(), NoMemory>
+    ensures value { OnOk result (out.new ≡ more_fields (record_fields active word) out.old) }
 {
-    fields.text("outputState", output_state(word))
-}
-
-#[tactic(auto, unfolding(crate::specs::OtherEvents::record_fields))]
-pub fn record(alloc: Global, active: bool, word: RecordWord) -> Result<Fields, NoMemory>
-    ensures value { IfOk result (λ fields. fields ≡ obj_of (record_fields active word)) }
-{
-    let fields = Fields::new(alloc).truth("outputActive", active)?;
-    let fields = fields.null("outputPath")?;
-    with_state(fields, word)
+    out.truth("outputActive", active)?;
+    out.null("outputPath")?;
+    out.text("outputState", output_state(word))
 }
 
 #[tactic(auto, unfolding(crate::specs::OtherEvents::studio_fields))]
-pub fn studio(alloc: Global, enabled: bool) -> Result<Fields, NoMemory>
-    ensures value { IfOk result (λ fields. fields ≡ obj_of (studio_fields enabled)) }
+pub fn studio(out: &mut JsonText, enabled: bool) -> Result<(), NoMemory>
+    ensures value { OnOk result (out.new ≡ more_fields (studio_fields enabled) out.old) }
 {
-    Fields::new(alloc).truth("studioModeEnabled", enabled)
+    out.truth("studioModeEnabled", enabled)
 }

@@ -1,14 +1,16 @@
 //! What is said to a connection, as the text of a message.
-ghost use Rattle.std.specs.Prelude.{◌≡◌, IfOk, pos};
+ghost use Rattle.std.specs.Prelude.{◌≡◌, IfOk, OnOk, codes, pos};
+ghost use Rattle.mix_base.specs.declared.json.Json as json;
+ghost use Rattle.mix_json.specs.Growing.{more_field, more_fields, more_item};
 ghost use Rattle.mix_json.specs.Trees.{obj_of};
 ghost use Rattle.mix_events.specs.Sayable.{IsSayable};
-ghost use Rattle.mix_events.specs.Texts.{fields_of, op_of, said_text};
+ghost use Rattle.mix_events.specs.Texts.{fields_of, op_of, said_json, said_text};
 
-use crate::done::{batch_fields, done_fields};
+use crate::done::{batch, done};
 use crate::event::event_fields;
-use crate::hello::{hello_fields, identified_fields};
+use crate::hello::{hello, identified};
 use mix_base::{NoMemory, Text};
-use mix_json::Fields;
+use mix_json::JsonText;
 use mix_model::Said;
 use std::alloc::Global;
 
@@ -25,26 +27,53 @@ fn op_of(said: &Said) -> i64
     }
 }
 
-/// The object `d`.
-fn fields_of(alloc: Global, said: &Said) -> Result<Fields, NoMemory>
+fn with_fields(alloc: Global, out: &mut JsonText, said: &Said) -> Result<(), NoMemory>
     requires { IsSayable said.now }
-    ensures value { IfOk result (λ fields. fields ≡ obj_of (fields_of said.now)) }
+    ensures value { OnOk result (out.new ≡ more_fields (fields_of said.now) out.old) }
 {
     match said {
-        Said::Hello { login } => hello_fields(alloc, login),
-        Said::Identified => identified_fields(alloc),
-        Said::Event(event) => event_fields(alloc, event),
-        Said::Response(done) => done_fields(alloc, done),
-        Said::BatchResponse { id, results } => batch_fields(alloc, id, results.as_slice()),
+        Said::Hello { login } => hello(alloc, out, login),
+        Said::Identified => identified(out),
+        Said::Event(event) => event_fields(out, event),
+        Said::Response(answer) => done(out, answer),
+        Said::BatchResponse { id, results } => batch(out, id, results.as_slice()),
     }
 }
 
+/// With the object `d`.
+#[tactic(auto, using(crate::proofs::SaidLemmas::fields_under))]
+fn with_object(alloc: Global, out: &mut JsonText, said: &Said) -> Result<(), NoMemory>
+    requires { IsSayable said.now }
+    ensures value { OnOk result
+        (out.new ≡ more_field (codes "d") (json.Obj (obj_of (fields_of said.now))) out.old) }
+{
+    out.key("d")?;
+    out.open()?;
+    with_fields(alloc, out, said)?;
+    out.close()
+}
+
+#[tactic(auto, using(crate::proofs::SaidLemmas::message_closed))]
+fn with_message(alloc: Global, out: &mut JsonText, said: &Said) -> Result<(), NoMemory>
+    requires { IsSayable said.now }
+    ensures value { OnOk result (out.new ≡ more_item (said_json said.now) out.old) }
+{
+    out.open()?;
+    with_object(alloc, out, said)?;
+    out.int("op", op_of(said))?;
+    out.close()
+}
+
 /// The text of a message of obs-websocket 5, in compact JSON with keys in byte order.
+#[tactic(auto, using(mix_json::proofs::TextLemmas::whole))]
 pub fn said_text(alloc: Global, said: &Said) -> Result<Text, NoMemory>
     requires sayable { IsSayable said.now }
     ensures value { IfOk result (λ text. text ≡ said_text said.now) }
 {
-    let fields = fields_of(alloc, said)?;
-    let fields = Fields::new(alloc).obj("d", fields)?;
-    fields.int("op", op_of(said))?.write()
+    let mut out = JsonText::new(alloc)?;
+    let Ok(()) = with_message(alloc, &mut out, said) else {
+        drop(out);
+        return Err(NoMemory);
+    };
+    out.write()
 }

@@ -25,7 +25,10 @@ use Rattle.mix_model.specs.Values.{new_sound}
 use Rattle.mix_model.specs.Edits.{row_changed}
 use Rattle.std.proofs.lemmas.List.{length-map}
 use Rattle.mix_graph.specs.declared.row_edit.RowEdit.{RowEdit}
-use Rattle.mix_graph.proofs.CreateLemmas.{and_first, and_second, not_true}
+use Rattle.mix_model.proofs.SetLemmas.{and_first, and_second}
+use Rattle.std.proofs.lemmas.Bool.{not-true}
+use Rattle.std.proofs.lemmas.Bool.{or_left}
+use Rattle.std.proofs.lemmas.Bool.{or_right}
 
 -- the rows of this serial changed
 abbrev pub changed : ℕ → (Row → Row) → List Row → List Row
@@ -41,14 +44,6 @@ unchanged x change (r ∷ rows) none = (elim (is_at x r) as (λ b.
       | true ↦ λ here. cc
       | false ↦ λ there. ap (λ rs. r ∷ rs) (unchanged x change rows there)
     ]) none
-
-or_left : (a b : Bool) → a ≡ true → (a || b) ≡ true
-or_left true b h = refl
-or_left false b h = cc
-
-or_right : (a b : Bool) → b ≡ true → (a || b) ≡ true
-or_right true b h = refl
-or_right false b h = h
 
 pub differs : (y x : ℕ) (xs : List ℕ) → has y xs ≡ false → has x xs ≡ true → (y == x) ≡ false
 differs y x xs none there = (elim (y == x) as (λ b. (y == x) ≡ b → b ≡ false) [
@@ -81,7 +76,7 @@ pub changed_at : (x : ℕ) (change : Row → Row) (rows : List Row) (i : ℕ) (d
 changed_at x change [] i d differ below here = absurd (omega (arith, below))
 changed_at x change (r ∷ rows) zero d differ below here =
     let same : is_at x r ≡ true = eq-eqb r.serial x here in
-    let none : has r.serial (serials_of rows) ≡ false = not_true _ (and_first _ _ differ) in
+    let none : has r.serial (serials_of rows) ≡ false = not-true _ (and_first _ _ differ) in
     let rest : changed x change rows ≡ rows = unchanged x change rows
     (none_there x rows (subst (λ y. has y (serials_of rows) ≡ false) here none)) in
     rw (same, rest)
@@ -89,7 +84,7 @@ changed_at x change (r ∷ rows) (suc i) d differ below here =
     let there : has x (serials_of rows) ≡ true =
     at_has x rows i d (omega (arith, below)) here in
     let other : is_at x r ≡ false = differs r.serial x (serials_of rows)
-    (not_true _ (and_first _ _ differ)) there in
+    (not-true _ (and_first _ _ differ)) there in
     let tail : is_distinct (serials_of rows) ≡ true = and_second _ _ differ in
     let rest : changed x change rows ≡ slice_set rows i (change (get_or rows i d)) =
     changed_at x change rows i d tail (omega (arith, below)) here in
@@ -148,8 +143,10 @@ order_same rows after dying places next order same few =
     record {
       room = omega (arith, count, room);
       few = omega (arith, count, drawn);
+      start = order.start;
       drawn = order.drawn;
       items = few;
+      rise = rw same order.rise;
       differ = rw same order.differ;
       below = rw same order.below;
     }

@@ -22,11 +22,11 @@ use Rattle.mix_model.specs.Causes.{item_count, cause_or, unknown, not_parent, na
 use Rattle.mix_model.specs.Lookups.{item_at}
 use Rattle.std.proofs.Common.{is_none}
 use Rattle.mix_model.proofs.SetLemmas.{and_first, and_second}
-use Rattle.mix_graph.specs.declared.refused.NewItem.{NewItem}
-use Rattle.mix_graph.specs.Refused.{RefusedBy}
-use Rattle.mix_graph.specs.Searched.{late_cause_with}
-use Rattle.mix_graph.proofs.SetShape.{other_name}
-use Rattle.mix_graph.proofs.SumLemmas.{one_if}
+use Rattle.mix_shape.specs.declared.new_item.NewItem.{NewItem}
+use Rattle.mix_shape.specs.Refused.{RefusedBy}
+use Rattle.mix_shape.specs.NewItems.{late_cause_with}
+use Rattle.mix_shape.proofs.SetShape.{other_name}
+use Rattle.mix_shape.proofs.SumLemmas.{one_if}
 use Rattle.mix_graph.proofs.CreateLemmas.{refused_by}
 use Rattle.mix_graph.proofs.ItemLemmas.{late_free, added_rows, copy_free, copy_put}
 use Rattle.mix_model.specs.declared.item.Item.{Item}
@@ -36,11 +36,11 @@ use Rattle.mix_model.specs.Causes.{copy_cause}
 use Rattle.std.proofs.Common.{nat_lt, ◌++◌}
 use Rattle.mix_model.specs.Rows.{new_row}
 use Rattle.mix_model.specs.Values.{new_sound}
-use Rattle.mix_graph.specs.Created.{shown_added}
+use Rattle.mix_shape.specs.Created.{shown_added}
 use Rattle.mix_graph.specs.Searched.{with_item_on}
 use Rattle.mix_graph.proofs.ShownLemmas.{shown_rows, with_row}
-use Rattle.mix_graph.proofs.WithLemmas.{added_item, late_added, late_no_memory, added_count}
-use Rattle.mix_graph.proofs.WithLemmas.{shown_count}
+use Rattle.mix_shape.proofs.WithLemmas.{added_item, late_added, late_no_memory, added_count}
+use Rattle.mix_shape.proofs.WithLemmas.{shown_count}
 
 -- want of memory is none of the causes
 abbrev is_cause : GraphFault → Bool

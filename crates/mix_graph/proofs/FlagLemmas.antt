@@ -1,18 +1,16 @@
 -- Flags beside rows, put on test by test.
-use Rattle.std.proofs.Common.{◌≡◌, ℕ, zero, suc, ◌+◌, ◌<◌, Bool, true, false, ◌||◌}
-use Rattle.std.proofs.Common.{List, [], ◌∷◌, ◌++◌, length, get_or, take, drop}
-use Rattle.std.proofs.Common.{slice_set, refl, ap, sym, ◌∙◌, arith, add-one}
+use Rattle.std.proofs.Common.{◌≡◌, ℕ, zero, suc, ◌<◌, ◌==◌, Bool, true, false, ◌||◌, cond, List, []}
+use Rattle.std.proofs.Common.{◌∷◌, ◌++◌, length, get_or, slice_set, find, Some, None, refl, ap, sym}
+use Rattle.std.proofs.Common.{◌∙◌, arith}
+use Rattle.std.proofs.lemmas.Bool.{ltb-true, eqb-true, eq-eqb, ne_eqb}
 use Rattle.mix_model.specs.declared.row.Row.{Row}
+use Rattle.mix_model.specs.Sets.{rises_above}
+use Rattle.mix_model.specs.Rows.{is_at, serials_of}
 use Rattle.mix_model.specs.Walks.{leads, most_steps}
+use Rattle.mix_model.proofs.SetLemmas.{and_first, and_second}
+use Rattle.mix_shape.proofs.DestroyedShape.{rises_lower}
 use Rattle.mix_graph.specs.Searched.{flagged_also, next_in, reached_in}
-
--- a flag for each row stays one for each row
-pub flags_length : (p : ℕ → Bool) (rows : List Row) (flags : List Bool) →
-    length flags ≡ length rows → length (flagged_also p rows flags) ≡ length flags
-flags_length p [] flags same = refl
-flags_length p (row ∷ rows) [] same = refl
-flags_length p (row ∷ rows) (flag ∷ flags) same =
-    ap suc (flags_length p rows flags (omega (arith, same)))
+use Rattle.mix_graph.proofs.KeyLemmas.{key_above}
 
 -- equal tests put on equal flags
 pub flags_same : (p q : ℕ → Bool) → ((x : ℕ) → p x ≡ q x) → (rows : List Row) (flags : List Bool) →
@@ -38,6 +36,10 @@ or_false : (b : Bool) → (b || false) ≡ b
 or_false true = refl
 or_false false = refl
 
+or_true : (b : Bool) → (b || true) ≡ true
+or_true true = refl
+or_true false = refl
+
 -- a test that nothing passes puts on none
 pub flags_none : (p : ℕ → Bool) → ((x : ℕ) → p x ≡ false) → (rows : List Row) (flags : List Bool) →
     flagged_also p rows flags ≡ flags
@@ -46,29 +48,67 @@ flags_none p none (row ∷ rows) [] = refl
 flags_none p none (row ∷ rows) (flag ∷ flags) =
     rw (none row.serial, or_false flag, flags_none p none rows flags)
 
-suc_step : (p : ℕ → Bool) (rows : List Row) (flags : List Bool) (i : ℕ) (row : Row) (d : Bool) →
-    length flags ≡ length rows → i < length flags → row ≡ get_or rows i row →
-    take (suc i) (slice_set flags i (get_or flags i d || p row.serial))
-    ++ flagged_also p (drop (suc i) rows)
-    (drop (suc i) (slice_set flags i (get_or flags i d || p row.serial)))
-    ≡ take i flags ++ flagged_also p (drop i rows) (drop i flags)
-suc_step p [] [] i row d same below there = absurd (omega (arith, below))
-suc_step p [] (flag ∷ flags) i row d same below there = absurd (omega (arith, same))
-suc_step p (r ∷ rows) [] i row d same below there = absurd (omega (arith, below))
-suc_step p (r ∷ rows) (flag ∷ flags) zero row d same below there =
-    ap (λ (z : Row). (flag || p z.serial) ∷ flagged_also p rows flags) there
-suc_step p (r ∷ rows) (flag ∷ flags) (suc i) row d same below there = ap (λ fs. flag ∷ fs)
-    (suc_step p rows flags i row d (omega (arith, same)) (omega (arith, below)) there)
+-- where all serials are above one, its test puts on none
+flags_above : (s : ℕ) (rows : List Row) (flags : List Bool) →
+    rises_above s (serials_of rows) ≡ true →
+    flagged_also (λ x. s == x) rows flags ≡ flags
+flags_above s [] flags rise = refl
+flags_above s (row ∷ rows) [] rise = refl
+flags_above s (row ∷ rows) (flag ∷ flags) rise =
+    let more : s < row.serial = ltb-true s row.serial (and_first _ _ rise) in
+    let other : (s == row.serial) ≡ false = ne_eqb s row.serial (λ same. omega (arith, more, same)) in
+    let lower : rises_above s (serials_of rows) ≡ true =
+    rises_lower s row.serial (serials_of rows) more (and_second _ _ rise) in
+    let rest : flagged_also (λ x. s == x) rows flags ≡ flags = flags_above s rows flags lower in
+    rw (other, or_false flag, rest)
 
--- one flag more is written
-pub flag_step : (p : ℕ → Bool) (rows : List Row) (flags all : List Bool) (i : ℕ) (row : Row)
-    (b d : Bool) → length flags ≡ length rows → i < length flags → row ≡ get_or rows i row →
-    b ≡ (get_or flags i d || p row.serial) →
-    take i flags ++ flagged_also p (drop i rows) (drop i flags) ≡ all →
-    take (i + 1) (slice_set flags i b)
-    ++ flagged_also p (drop (i + 1) rows) (drop (i + 1) (slice_set flags i b)) ≡ all
-flag_step p rows flags all i row b d same below there value so_far =
-    rw (value, add-one i) (suc_step p rows flags i row d same below there) ∙ so_far
+-- the flag of the row that has the serial is put on, and no other
+pub flag_put : (s least : ℕ) (rows : List Row) (flags : List Bool) (i : ℕ) (d : Row) →
+    rises_above least (serials_of rows) ≡ true → length flags ≡ length rows → i < length rows →
+    (get_or rows i d).serial ≡ s →
+    slice_set flags i true ≡ flagged_also (λ x. s == x) rows flags
+flag_put s least [] flags i d rise same below here = absurd (omega (arith, below))
+flag_put s least (row ∷ rows) [] i d rise same below here = absurd (omega (arith, same))
+flag_put s least (row ∷ rows) (flag ∷ flags) zero d rise same below here =
+    let own : (s == row.serial) ≡ true = eq-eqb s row.serial (sym here) in
+    let rest : rises_above s (serials_of rows) ≡ true =
+    ap (λ n. rises_above n (serials_of rows)) (sym here) ∙ and_second _ _ rise in
+    let stays : flagged_also (λ x. s == x) rows flags ≡ flags = flags_above s rows flags rest in
+    rw (own, or_true flag, stays)
+flag_put s least (row ∷ rows) (flag ∷ flags) (suc i) d rise same below here =
+    let more : row.serial < (get_or rows i d).serial =
+    key_above (λ (r : Row). r.serial) d row.serial rows (and_second _ _ rise) i (omega (arith, below)) in
+    let there : (get_or rows i d).serial ≡ s = here in
+    let other : (s == row.serial) ≡ false =
+    ne_eqb s row.serial (λ own. omega (arith, more, own, there)) in
+    let each : length flags ≡ length rows = omega (arith, same) in
+    let inside : i < length rows = omega (arith, below) in
+    let rest : slice_set flags i true ≡ flagged_also (λ x. s == x) rows flags =
+    flag_put s row.serial rows flags i d (and_second _ _ rise) each inside there in
+    rw (other, or_false flag, ← rest)
+
+-- where no row has it, none is put on
+pub flag_absent : (s : ℕ) (rows : List Row) (flags : List Bool) → find (is_at s) rows ≡ None →
+    flags ≡ flagged_also (λ x. s == x) rows flags
+flag_absent s [] flags none = refl
+flag_absent s (row ∷ rows) [] none = refl
+flag_absent s (row ∷ rows) (flag ∷ flags) none =
+    here (flag_absent s rows flags) (row.serial == s) refl none
+  where
+    apart : (b : Bool) → (row.serial == s) ≡ false → (s == row.serial) ≡ b → b ≡ false
+    apart false other is = refl
+    apart true other is =
+        let own : (row.serial == s) ≡ true = eq-eqb row.serial s (sym (eqb-true s row.serial is)) in
+        let never : true ≡ false = sym own ∙ other in cc
+
+    here : (find (is_at s) rows ≡ None → flags ≡ flagged_also (λ x. s == x) rows flags) →
+        (b : Bool) → (row.serial == s) ≡ b →
+        cond b (Some row) (find (is_at s) rows) ≡ None →
+        flag ∷ flags ≡ flagged_also (λ x. s == x) (row ∷ rows) (flag ∷ flags)
+    here more true is found = cc
+    here more false is gone =
+        let other : (s == row.serial) ≡ false = apart (s == row.serial) is refl in
+        rw (other, or_false flag, ← more gone)
 
 -- what walks reach from two lists of roots
 pub reached_both : (rows : List Row) (first second : List ℕ) (x : ℕ) →

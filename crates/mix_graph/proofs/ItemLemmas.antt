@@ -1,11 +1,9 @@
 -- Why a new item is refused, and the rows with it.
 use Rattle.std.proofs.Common.{◌≡◌, ℕ, zero, suc, ◌<◌, ◌≤◌, Bool, true, false, not, List, []}
 use Rattle.std.proofs.Common.{◌∷◌, length, get_or, slice_set, find, refl, sym, ◌∙◌, arith}
-use Rattle.std.proofs.Common.{Option, Some, None, Err, nat_lt, nat_le, eq-eqb}
-use Rattle.std.specs.List.{list_all}
-use Rattle.std.proofs.lemmas.Bool.Decides.{nat_tests}
+use Rattle.std.proofs.Common.{Option, Some, None, Err, eq-eqb}
 use Rattle.mix_model.specs.declared.fault.GraphFault.{GraphFault}
-use Rattle.mix_model.specs.declared.fault.GraphFault.TheVariants.{Cycle, NotFound, Depth, TooMany}
+use Rattle.mix_model.specs.declared.fault.GraphFault.TheVariants.{Cycle, NotFound}
 use Rattle.mix_model.specs.declared.item.ItemSpec.{ItemSpec}
 use Rattle.mix_model.specs.declared.row.Row.{Row}
 use Rattle.mix_model.specs.Sets.{has, is_distinct}
@@ -15,16 +13,16 @@ use Rattle.mix_model.specs.State.{GraphState}
 use Rattle.mix_model.specs.Lookups.{row_of, is_row, item_at}
 use Rattle.mix_model.specs.Holders.{is_named, named_row_or_none}
 use Rattle.mix_model.specs.Walks.{is_chained}
-use Rattle.mix_model.specs.Edits.{item_added, item_duplicated, copied_to}
+use Rattle.mix_model.specs.Edits.{item_added, item_duplicated}
 use Rattle.mix_model.specs.Causes.{item_early, item_late, item_cause, late_cause, item_count}
 use Rattle.mix_model.specs.Causes.{Cause, first_cause}
 use Rattle.mix_model.specs.Causes.{unknown, not_parent, copy_early, copy_late, copy_cause}
 use Rattle.mix_model.specs.declared.item.Item.{Item}
 use Rattle.std.proofs.Common.{Result, Ok, OnOk, OnErr, IfOk, is_some, is_none}
-use Rattle.mix_graph.specs.Refused.{RefusedBy}
 use Rattle.mix_graph.specs.Searched.{InOrder}
-use Rattle.mix_graph.proofs.CreateLemmas.{and_first, and_second, not_true}
-use Rattle.mix_graph.proofs.ChangeLemmas.{changed_at, changed_length, at_has, differs, order_same, set_serials}
+use Rattle.mix_model.proofs.SetLemmas.{and_first, and_second}
+use Rattle.std.proofs.lemmas.Bool.{not-true}
+use Rattle.mix_graph.proofs.ChangeLemmas.{changed_at, at_has, differs, order_same, set_serials}
 
 pub late_chained : (g after : GraphState) (parent child : ℕ) → is_chained g child parent ≡ true →
     item_late g parent child after ≡ Some Cycle
@@ -45,7 +43,7 @@ found_at x (r ∷ rows) zero d differ below here = rw (eq-eqb r.serial x here)
 found_at x (r ∷ rows) (suc i) d differ below here =
     let there : has x (serials_of rows) ≡ true =
     at_has x rows i d (omega (arith, below)) here in
-    let first : has r.serial (serials_of rows) ≡ false = not_true _ (and_first _ _ differ) in
+    let first : has r.serial (serials_of rows) ≡ false = not-true _ (and_first _ _ differ) in
     let other : is_at x r ≡ false = differs r.serial x (serials_of rows) first there in
     let tail : is_distinct (serials_of rows) ≡ true = and_second _ _ differ in
     rw other (found_at x rows i d tail (omega (arith, below)) here)
@@ -109,17 +107,6 @@ pub copy_put : (g : GraphState) (parent id to : ℕ) (item : Item) →
     item_duplicated parent id to g ≡ item_added to item.child (spec_of item) g
 unfolding item_duplicated item_added
 copy_put g parent id to item found = rw found refl
-
-copied_case : (to : ℕ) (item : Option Item) (g : GraphState) →
-    length (copied_to to item g).rows ≡ length g.rows
-copied_case to None g = refl
-copied_case to (Some item) g = changed_length to (with_item item.child (spec_of item)) g
-
--- a copy leaves the number of rows
-pub copied_length : (parent id to : ℕ) (g : GraphState) →
-    length (item_duplicated parent id to g).rows ≡ length g.rows
-unfolding item_duplicated
-copied_length parent id to g = copied_case to (item_at g parent id) g
 
 -- nothing is refused early: the late causes of that item are left
 pub copy_free : (g after : GraphState) (parent id to : ℕ) (item : Item) →

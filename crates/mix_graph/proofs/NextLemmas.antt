@@ -9,7 +9,7 @@ use Rattle.mix_model.specs.declared.row.Row.{Row}
 use Rattle.mix_model.specs.Sets.{has}
 use Rattle.mix_model.specs.Rows.{serials_of}
 use Rattle.mix_graph.specs.Asked.{is_next, nearer}
-use Rattle.mix_graph.proofs.CreateLemmas.{and_first, and_second}
+use Rattle.mix_model.proofs.SetLemmas.{and_first, and_second}
 
 -- what holds of all, and of one more
 all_more : (p q : ℕ → Bool) → ((y : ℕ) → p y ≡ true → q y ≡ true) → (xs : List ℕ) (y : ℕ) →

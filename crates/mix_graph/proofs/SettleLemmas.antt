@@ -2,18 +2,20 @@
 use Rattle.std.proofs.Common.{◌≡◌, ℕ, zero, suc, ◌+◌, ◌<◌, ◌≤◌, Bool, true, false, ◌||◌, ◌&&◌, not}
 use Rattle.std.proofs.Common.{List, [], ◌∷◌, ◌++◌, length, get_or, drop, map, filter}
 use Rattle.std.proofs.Common.{refl, ap, sym, ◌∙◌, arith, add-one, ◌==◌, append_assoc}
-use Rattle.std.proofs.Common.{length-append, cond, eqb-true, eq-eqb}
+use Rattle.std.proofs.Common.{length-append, append-nil, cond, eqb-true, eq-eqb}
 use Rattle.mix_model.specs.declared.row.Row.{Row}
 use Rattle.mix_model.specs.Sets.{has}
 use Rattle.mix_model.specs.Rows.{serials_of}
 use Rattle.mix_model.specs.State.{GraphState}
-use Rattle.mix_model.specs.Marks.{Mark, row_settled}
+use Rattle.mix_model.specs.Marks.{Mark, row_settled, settled_by}
 use Rattle.mix_model.specs.Settle.{newly_dying}
 use Rattle.mix_model.specs.Walks.{is_active}
 use Rattle.std.proofs.lemmas.List.Sums.{sum_by-cons}
 use Rattle.mix_model.specs.Causes.{item_count}
 use Rattle.mix_graph.specs.Searched.{HasRoom}
-use Rattle.mix_graph.specs.Settling.{since_by, numbered, begins_to_die, flagged}
+use Rattle.mix_graph.specs.Settling.{since_by, numbered, begins_to_die, flagged, with_numbers}
+use Rattle.std.proofs.lemmas.Bool.{or_left}
+use Rattle.std.proofs.lemmas.Bool.{or_right}
 
 suc_on : (rows : List Row) (flags : List Bool) (i : ℕ) (row : Row) →
     length flags ≡ length rows → i < length flags → row ≡ get_or rows i row →
@@ -115,6 +117,12 @@ pub numbered_settled : (marks : List Mark) (g : GraphState) →
     ≡ map (row_settled marks g) g.rows
 numbered_settled marks g = numbered_by marks g g.rows
 
+-- where nothing begins to die, numbers are all that is written
+pub settled_living : (marks : List Mark) (g : GraphState) → newly_dying g ≡ [] →
+    with_numbers marks g ≡ settled_by marks g
+unfolding settled_by
+settled_living marks g none = rw (none, append-nil g.dying) refl
+
 -- each row counted that passes a test of its serial
 abbrev pub counted : (ℕ → Bool) → List Row → ℕ
 counted p rows = length (filter (λ r. p r.serial) rows)
@@ -140,14 +148,6 @@ counted_numbered p marks clock (row ∷ rows) (flag ∷ flags) =
     counted_more p _ (numbered marks clock rows flags)
     ∙ ap (λ n. one (p row.serial) + n) (counted_numbered p marks clock rows flags)
     ∙ sym (counted_more p row rows)
-
-or_left : (a b : Bool) → a ≡ true → (a || b) ≡ true
-or_left true b h = refl
-or_left false b h = cc
-
-or_right : (a b : Bool) → b ≡ true → (a || b) ≡ true
-or_right true b h = refl
-or_right false b h = h
 
 -- one test lets through what the other two let through together
 counts_split : (p q r : ℕ → Bool) (rows : List Row) →

@@ -1,5 +1,5 @@
 -- New sources with an item of their parent that shows them.
-use Rattle.std.proofs.Common.{◌≡◌, ℕ, ◌+◌, ◌<◌, ◌≤◌, true, List, [], ◌∷◌, ◌++◌, length, find}
+use Rattle.std.proofs.Common.{◌≡◌, ℕ, ◌+◌, ◌<◌, ◌≤◌, true, List, [], ◌∷◌, ◌++◌, length}
 use Rattle.std.proofs.Common.{get_or, refl, ap, sym, ◌∙◌, arith, length-append}
 use Rattle.std.proofs.Common.{Some, None, nat_lt}
 use Rattle.std.specs.List.{list_all}
@@ -10,7 +10,7 @@ use Rattle.mix_model.specs.declared.settings.Settings.{Settings}
 use Rattle.mix_model.specs.declared.item.ItemSpec.{ItemSpec}
 use Rattle.mix_model.specs.declared.row.Row.{Row}
 use Rattle.mix_model.specs.Sets.{is_distinct}
-use Rattle.mix_model.specs.Rows.{is_at, is_input, new_row, serials_of}
+use Rattle.mix_model.specs.Rows.{is_input, new_row, serials_of}
 use Rattle.mix_model.specs.Values.{new_sound}
 use Rattle.mix_model.specs.Items.{with_item}
 use Rattle.mix_model.specs.State.{GraphState}
@@ -19,22 +19,15 @@ use Rattle.mix_model.specs.Edits.{input_created, shown_input_created}
 use Rattle.mix_model.specs.declared.kind.Kind.TheVariants.{Scene, Group}
 use Rattle.mix_model.specs.declared.settings.Settings.TheVariants.{None as NoSettings}
 use Rattle.mix_model.specs.Causes.{shown_early, shown_cause, late_cause, item_count}
-use Rattle.mix_graph.specs.Created.{shown_added, listed, next_item, input_made, Wanted}
+use Rattle.mix_shape.specs.Created.{shown_added, listed, next_item, input_made, Wanted}
 use Rattle.mix_graph.specs.Searched.{InOrder, with_item_on}
-use Rattle.mix_graph.proofs.CreateLemmas.{differ_more, order_row}
+use Rattle.mix_shape.proofs.FreshLemmas.{differ_more}
+use Rattle.mix_graph.proofs.CreateLemmas.{order_row}
 use Rattle.mix_graph.proofs.ChangeLemmas.{changed_at, changed_length, order_same}
 use Rattle.mix_graph.proofs.ItemLemmas.{put_serials, found_at, named_there, first_free}
 use Rattle.mix_model.specs.Lookups.{is_row}
 use Rattle.mix_model.specs.Holders.{is_named}
 use Rattle.mix_model.specs.Causes.{not_parent, name_taken}
-
--- a named parent is a row
-pub shown_not_there : (g : GraphState) (name : List ℕ) (parent : ℕ) →
-    shown_early g name parent ≡ None → find (is_at parent) g.rows ≡ None → ⊥
-unfolding shown_early
-shown_not_there g name parent early none =
-    let refused : shown_early g name parent ≡ Some NotFound = rw none in
-    absurd (cc (sym early ∙ refused))
 
 -- a parent that isn't refused is there
 pub shown_there : (g : GraphState) (name : List ℕ) (parent : ℕ) →

@@ -15,12 +15,6 @@ or_none : (b : Bool) → b ≡ (b || false)
 or_none true = refl
 or_none false = refl
 
--- no step is left
-pub walk_ends : (rows : List Row) (rounds from : ℕ) (flags now : List Bool) → rounds ≡ 0 →
-    now ≡ flagged_also (λ x. from == x) rows flags →
-    now ≡ flagged_also (leads (next_in rows) rounds from) rows flags
-walk_ends rows rounds from flags now none value = rw none value
-
 -- a walk from where no row is goes nowhere else
 stays_there : (next : ℕ → List ℕ) (rounds from x : ℕ) → next from ≡ [] →
     (from == x) ≡ leads next rounds from x

@@ -1,7 +1,7 @@
-pub mod Refused
+pub use Rattle.mix_shape.specs.Refused
+pub use Rattle.mix_shape.specs.Created
 pub mod Searched
 pub mod Settling
 pub mod RowEdits
 pub mod Asked
-pub mod Created
 pub mod Whole

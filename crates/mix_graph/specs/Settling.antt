@@ -3,10 +3,11 @@ use Rattle.std.specs.Prelude.{ℕ, Bool, List, [], ◌∷◌, ◌&&◌, not, if�
 use Rattle.mix_model.specs.declared.change.Change.{Change}
 use Rattle.mix_model.specs.Settle.{change_if}
 use Rattle.mix_model.specs.declared.row.Row.{Row}
-use Rattle.mix_model.specs.Sets.{has}
+use Rattle.std.specs.Prelude.{map, IsTrue}
+use Rattle.mix_model.specs.Sets.{has, rises_above}
 use Rattle.mix_model.specs.State.{GraphState}
 use Rattle.mix_model.specs.Holders.{is_held}
-use Rattle.mix_model.specs.Marks.{Mark, was_active, since_marked, changes_by}
+use Rattle.mix_model.specs.Marks.{Mark, was_active, since_marked, row_settled, changes_by}
 
 -- the number that a row gets: the clock where it became active, else what it was
 abbrev pub since_by : List Mark → ℕ → ℕ → Bool → ℕ
@@ -19,6 +20,14 @@ numbered marks clock [] flags = []
 numbered marks clock (row ∷ rows) [] = row ∷ rows
 numbered marks clock (row ∷ rows) (flag ∷ flags) =
     record row { since = since_by marks clock row.serial flag } ∷ numbered marks clock rows flags
+
+-- the rows with their numbers, by what is active
+abbrev pub with_numbers : List Mark → GraphState → GraphState
+with_numbers marks g = record g { rows = map (row_settled marks g) g.rows }
+
+-- marks by rising serial
+abbrev pub MarksRise : List Mark → Type 0
+MarksRise marks = IsTrue (rises_above 0 (map (λ m. m.serial) marks))
 
 -- nothing holds x, and it doesn't die yet
 unfoldable pub begins_to_die : GraphState → ℕ → Bool

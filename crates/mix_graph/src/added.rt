@@ -10,19 +10,20 @@ ghost use Rattle.mix_model.specs.Causes.{item_early, item_late, item_cause, copy
 ghost use Rattle.mix_model.specs.Edits.{item_added, item_duplicated};
 ghost use Rattle.std.specs.Prelude.{IfSome, IsTrue};
 ghost use Rattle.mix_model.specs.Items.{new_item, with_item, spec_of};
-ghost use Rattle.mix_graph.specs.Refused.{RefusedBy};
+ghost use Rattle.mix_shape.specs.Refused.{RefusedBy};
 ghost use Rattle.mix_graph.specs.Searched.{with_item_on};
 ghost use Rattle.mix_model.specs.declared.item.ItemSpec.{ItemSpec};
 ghost use Rattle.mix_model.specs.Lookups.{item_at};
 ghost use Rattle.mix_model.specs.Causes.{item_count};
 ghost use Rattle.std.specs.Prelude.{Some};
 
-use crate::refused::{NewItem, late_cause};
+use crate::refused::late_cause;
 use crate::row_edit::items_taken;
 use crate::search::{chains_to, has_items, place_of};
 use crate::sources::Sources;
 use mix_base::{ItemId, ListOf, NoMemory, Serial};
 use mix_model::{GraphFault, Item, ItemSpec, Row};
+use mix_shape::NewItem;
 use std::alloc::Global;
 
 #[tactic(auto, unfolding(mix_model::specs::Items::new_item))]

@@ -2,7 +2,7 @@
 ghost use Rattle.std.specs.Prelude.{◌≡◌, ◌<◌, IsSomeAnd, MatchOption, None, option_map, slice_get};
 ghost use Rattle.std.specs.Prelude.{slice_index_or, length};
 ghost use Rattle.mix_model.specs.Lookups.{row_of, items_of};
-ghost use Rattle.mix_model.specs.Holders.{is_named, find_named};
+ghost use Rattle.mix_model.specs.Holders.{is_named, find_named, has_name};
 ghost use Rattle.mix_model.specs.Views.{IsView};
 ghost use Rattle.std.specs.Prelude.{IsTrue};
 ghost use Rattle.mix_model.specs.Rows.{serials_of};
@@ -11,7 +11,7 @@ ghost use Rattle.mix_graph.specs.Asked.{is_next};
 use crate::Graph;
 use crate::search::serial_after;
 use crate::sources::Channel;
-use mix_base::{Serial, Text};
+use mix_base::{Name, Serial, Text};
 use mix_model::{Item, RowView};
 
 impl Graph {
@@ -23,6 +23,13 @@ impl Graph {
             Some(row) => Some(row.serial),
             None => None,
         }
+    }
+
+    /// Whether a named row has this name.
+    pub fn has_name(&self, name: &Name) -> bool
+        ensures reply { result ≡ has_name self.now.present name.now }
+    {
+        self.sources.has_name(name.bytes())
     }
 
     /// The row of this serial, named or not.
@@ -60,6 +67,13 @@ impl Graph {
         ensures reply { result ≡ self.now.present.next_serial }
     {
         self.sources.next_serial()
+    }
+
+    /// The clock of pictures.
+    pub fn clock(&self) -> u64
+        ensures reply { result ≡ self.now.present.clock }
+    {
+        self.sources.clock()
     }
 
     /// How many frames are in flight.

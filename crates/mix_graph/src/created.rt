@@ -4,7 +4,7 @@ ghost use Rattle.mix_model.specs.Holders.{has_name};
 ghost use Rattle.mix_model.specs.Rows.{new_row};
 ghost use Rattle.mix_model.specs.Values.{new_sound};
 ghost use Rattle.mix_model.specs.Edits.{scene_created};
-ghost use Rattle.mix_graph.specs.Refused.{RefusedBy, bare_cause};
+ghost use Rattle.mix_shape.specs.Refused.{RefusedBy, bare_cause};
 
 use crate::sources::Sources;
 use mix_base::{ListOf, Name, NoMemory, Serial};

@@ -6,8 +6,8 @@ ghost use Rattle.mix_model.specs.Values.{is_place, are_settings};
 ghost use Rattle.mix_model.specs.Marks.{edited};
 ghost use Rattle.mix_model.specs.Edits.{group_created};
 ghost use Rattle.mix_model.specs.Causes.{shown_cause};
-ghost use Rattle.mix_graph.specs.Refused.{RefusedBy};
-ghost use Rattle.mix_graph.specs.Created.{input_made, input_cause, next_item, wanted_item};
+ghost use Rattle.mix_shape.specs.Refused.{RefusedBy};
+ghost use Rattle.mix_shape.specs.Created.{input_made, input_cause, next_item, wanted_item};
 
 use crate::Graph;
 use mix_base::{ItemId, Name, Serial};
@@ -44,7 +44,7 @@ impl Graph {
                 Err(GraphFault::NoMemory)
             }
             Ok(made) => {
-                self.tally.settle(&mut self.sources);
+                self.tally.settle_living(&mut self.sources);
                 Ok(made)
             }
         }
@@ -90,7 +90,7 @@ impl Graph {
                 Err(GraphFault::NoMemory)
             }
             Ok(made) => {
-                self.tally.settle(&mut self.sources);
+                self.tally.settle_living(&mut self.sources);
                 Ok(made)
             }
         }

@@ -10,7 +10,7 @@ ghost use Rattle.mix_model.specs.Marks.{edited};
 ghost use Rattle.mix_model.specs.Edits.{row_changed, item_removed, item_enabled, item_locked};
 ghost use Rattle.mix_model.specs.Edits.{item_placed, item_moved, input_set, renamed, source_removed};
 ghost use Rattle.mix_graph.specs.RowEdits.{row_edited};
-ghost use Rattle.mix_graph.specs.Refused.{is_missing, lacks_item};
+ghost use Rattle.mix_shape.specs.Refused.{is_missing, lacks_item};
 
 use crate::row_edit::{ItemEdit, RowEdit};
 use crate::{Graph, Missing};

@@ -5,7 +5,7 @@ ghost use Rattle.mix_model.specs.Walks.{active_rows};
 ghost use Rattle.mix_model.specs.Marks.{edited};
 ghost use Rattle.mix_model.specs.Causes.{frame_cause};
 ghost use Rattle.mix_model.specs.Edits.{frame_held};
-ghost use Rattle.mix_graph.specs.Refused.{RefusedBy};
+ghost use Rattle.mix_shape.specs.Refused.{RefusedBy};
 
 use crate::Graph;
 use crate::kept::InFlight;

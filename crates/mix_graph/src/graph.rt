@@ -11,7 +11,7 @@ ghost use Rattle.mix_model.specs.Views.{IsView};
 ghost use Rattle.mix_model.specs.Marks.{edited, actions_begun, was_active, changes_by};
 ghost use Rattle.mix_model.specs.Edits.{scene_created, channel_set, clock_set, empty_graph};
 ghost use Rattle.mix_model.specs.Causes.{scene_cause};
-ghost use Rattle.mix_graph.specs.Refused.{RefusedBy, are_limits, may_be_set, is_missing};
+ghost use Rattle.mix_shape.specs.Refused.{RefusedBy, are_limits, may_be_set, is_missing};
 
 use crate::sources::Sources;
 use crate::tally::Tally;
@@ -80,7 +80,7 @@ impl Graph {
                 Err(GraphFault::NoMemory)
             }
             Ok(serial) => {
-                self.tally.settle(&mut self.sources);
+                self.tally.settle_living(&mut self.sources);
                 Ok(serial)
             }
         }

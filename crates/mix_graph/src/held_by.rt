@@ -6,7 +6,7 @@ ghost use Rattle.mix_model.specs.Walks.{upgrade};
 ghost use Rattle.mix_model.specs.Causes.{hold_cause, watch_cause};
 ghost use Rattle.mix_model.specs.Edits.{hold_made, watch_made, hold_released, watch_dropped};
 ghost use Rattle.mix_model.specs.Edits.{frame_released, preview_set};
-ghost use Rattle.mix_graph.specs.Refused.{RefusedBy};
+ghost use Rattle.mix_shape.specs.Refused.{RefusedBy};
 
 use crate::kept::{Holding, InFlight, Watching};
 use crate::sources::Sources;

@@ -7,7 +7,7 @@ ghost use Rattle.mix_model.specs.Marks.{edited};
 ghost use Rattle.mix_model.specs.Causes.{hold_cause, watch_cause};
 ghost use Rattle.mix_model.specs.Edits.{hold_made, watch_made, hold_released, watch_dropped};
 ghost use Rattle.mix_model.specs.Edits.{frame_released, preview_set};
-ghost use Rattle.mix_graph.specs.Refused.{RefusedBy, is_missing, is_no_other};
+ghost use Rattle.mix_shape.specs.Refused.{RefusedBy, is_missing, is_no_other};
 
 use crate::{Graph, Missing};
 use mix_base::Serial;

@@ -6,8 +6,8 @@ ghost use Rattle.mix_model.specs.Lookups.{row_of, is_row};
 ghost use Rattle.mix_model.specs.Edits.{input_created};
 ghost use Rattle.mix_model.specs.Causes.{item_count};
 ghost use Rattle.mix_model.specs.Shape.{GraphShape};
-ghost use Rattle.mix_graph.specs.Refused.{RefusedBy};
-ghost use Rattle.mix_graph.specs.Created.{input_made, input_cause, wanted_item};
+ghost use Rattle.mix_shape.specs.Refused.{RefusedBy};
+ghost use Rattle.mix_shape.specs.Created.{input_made, input_cause, wanted_item};
 
 use crate::created::{new_row, reserve_source};
 use crate::sources::Sources;

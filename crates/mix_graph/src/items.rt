@@ -5,7 +5,7 @@ ghost use Rattle.mix_model.specs.Values.{is_place};
 ghost use Rattle.mix_model.specs.Marks.{edited};
 ghost use Rattle.mix_model.specs.Causes.{item_cause, copy_cause};
 ghost use Rattle.mix_model.specs.Edits.{item_added, item_duplicated};
-ghost use Rattle.mix_graph.specs.Refused.{RefusedBy};
+ghost use Rattle.mix_shape.specs.Refused.{RefusedBy};
 
 use crate::Graph;
 use crate::added::spec_of;

@@ -8,7 +8,7 @@ ghost use Rattle.mix_model.specs.Lookups.{row_of, item_at, items_of};
 ghost use Rattle.mix_graph.specs.RowEdits.{row_edited};
 ghost use Rattle.mix_model.specs.Edits.{channel_set, clock_set, row_changed};
 ghost use Rattle.mix_model.specs.Views.{IsView};
-ghost use Rattle.mix_graph.specs.Refused.{is_missing, lacks_item};
+ghost use Rattle.mix_shape.specs.Refused.{is_missing, lacks_item};
 
 use crate::row_edit::{RowEdit, edit_at};
 use crate::search::{place_of, row_at};
@@ -64,6 +64,12 @@ impl Sources {
         ensures { result ≡ self.now.next_serial }
     {
         Serial(self.next_serial)
+    }
+
+    pub fn clock(&self) -> u64
+        ensures { result ≡ self.now.clock }
+    {
+        self.clock
     }
 
     pub fn frames_in_flight(&self) -> usize

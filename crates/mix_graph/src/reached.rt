@@ -3,7 +3,7 @@ ghost use Rattle.std.specs.Prelude.{◌≡◌, false, length, map, flat_map, opt
 ghost use Rattle.std.specs.List.{list_any};
 ghost use Rattle.mix_model.specs.Lookups.{named_by};
 ghost use Rattle.mix_model.specs.Walks.{is_active, is_showing};
-ghost use Rattle.mix_graph.specs.Searched.{flagged_also, reached_in};
+ghost use Rattle.mix_graph.specs.Searched.{RowsRise, flagged_also, reached_in};
 
 use crate::search::{flag_walked, leads_to, row_at};
 use crate::sources::{Channel, Sources};
@@ -20,7 +20,8 @@ fn turn_off(flags: &mut [bool])
 /// Puts on the flags of the rows to which a walk leads from this root.
 #[tactic(auto, unfolding(crate::specs::Searched::reached_in))]
 fn flag_from(rows: &[Row], root: Option<Serial>, flags: &mut [bool])
-    requires { length flags.old ≡ length rows.now }
+    requires each { length flags.old ≡ length rows.now }
+    requires rising { RowsRise rows.now }
     ensures { flags.new ≡
         flagged_also (reached_in rows.now (option_to_list root)) rows.now flags.old }
 {
@@ -31,7 +32,8 @@ fn flag_from(rows: &[Row], root: Option<Serial>, flags: &mut [bool])
 
 /// Puts on the flags of the rows to which a walk leads from what the channels name.
 fn flag_from_channels(rows: &[Row], channels: &[Channel], flags: &mut [bool])
-    requires { length flags.old ≡ length rows.now }
+    requires each { length flags.old ≡ length rows.now }
+    requires rising { RowsRise rows.now }
     ensures { flags.new ≡
         flagged_also (reached_in rows.now (flat_map named_by channels.now)) rows.now flags.old }
 {
@@ -44,6 +46,7 @@ fn flag_from_channels(rows: &[Row], channels: &[Channel], flags: &mut [bool])
 /// Whether a walk leads to the row from this root.
 #[tactic(auto, unfolding(crate::specs::Searched::reached_in))]
 fn is_led_from(rows: &[Row], root: &Option<Serial>, serial: Serial) -> bool
+    requires { RowsRise rows.now }
     ensures { result ≡ reached_in rows.now (option_to_list root.now) serial }
 {
     match root {
@@ -55,6 +58,7 @@ fn is_led_from(rows: &[Row], root: &Option<Serial>, serial: Serial) -> bool
 /// Whether a walk leads to the row from what the channel names.
 #[tactic(auto, using(crate::proofs::FlagLemmas::reached_both))]
 fn is_led_by(rows: &[Row], channel: &Channel, serial: Serial) -> bool
+    requires { RowsRise rows.now }
     ensures { result ≡ reached_in rows.now (named_by channel.now) serial }
 {
     is_led_from(rows, &channel.0, serial) || is_led_from(rows, &channel.1, serial)
@@ -62,6 +66,7 @@ fn is_led_by(rows: &[Row], channel: &Channel, serial: Serial) -> bool
 
 /// Whether a walk leads to the row from what the channels name.
 fn is_led_by_channels(rows: &[Row], channels: &[Channel], serial: Serial) -> bool
+    requires { RowsRise rows.now }
     ensures { result ≡ list_any (λ c. reached_in rows.now (named_by c) serial) channels.now }
 {
     channels

@@ -2,36 +2,32 @@
 ghost use Rattle.std.specs.Prelude.{◌≡◌, ◌+◌, ◌≤◌, not, nat_le, nat_lt, length};
 ghost use Rattle.std.specs.List.{list_all};
 ghost use Rattle.mix_model.specs.Causes.{item_count};
-ghost use Rattle.mix_graph.specs.Searched.{rank_with, weight_with, late_cause_with};
+ghost use Rattle.mix_graph.specs.Searched.{RowsRise};
+ghost use Rattle.mix_shape.specs.NewItems.{rank_with, weight_with, late_cause_with};
 
 use crate::search::{rank_from, weighed};
 use mix_base::Serial;
 use mix_model::{GraphFault, Row};
+use mix_shape::NewItem;
 
-/// An item that would be new. Its child is a row, or would be a new one as well: a group or an input.
-#[derive(Clone, Copy)]
-pub struct NewItem {
-    pub parent: Serial,
-    pub child: Serial,
-    /// Whether the child would be a new group.
-    pub group: bool,
-}
-
-#[tactic(auto, unfolding(crate::specs::Searched::rank_with))]
+#[tactic(auto, unfolding(mix_shape::specs::NewItems::rank_with))]
 fn is_shallow(rows: &[Row], new: &NewItem, serial: Serial) -> bool
+    requires { RowsRise rows.now }
     ensures { result ≡ nat_le (rank_with new.now rows.now serial) 16 }
 {
     rank_from(rows, new, 17, serial) <= 16
 }
 
 fn are_shallow(rows: &[Row], new: &NewItem) -> bool
+    requires { RowsRise rows.now }
     ensures { result ≡ list_all (λ r. nat_le (rank_with new.now rows.now r.serial) 16) rows.now }
 {
     rows.iter().all(|row| is_shallow(rows, new, row.serial))
 }
 
-#[tactic(auto, unfolding(crate::specs::Searched::weight_with))]
+#[tactic(auto, unfolding(mix_shape::specs::NewItems::weight_with))]
 fn is_light(rows: &[Row], new: &NewItem, serial: Serial) -> bool
+    requires { RowsRise rows.now }
     ensures { result ≡ nat_le (weight_with new.now rows.now serial) 4096 }
 {
     match weighed(rows, new, 17, serial, 4096) {
@@ -41,6 +37,7 @@ fn is_light(rows: &[Row], new: &NewItem, serial: Serial) -> bool
 }
 
 fn are_light(rows: &[Row], new: &NewItem) -> bool
+    requires { RowsRise rows.now }
     ensures { result ≡ list_all (λ r. nat_le (weight_with new.now rows.now r.serial) 4096) rows.now }
 {
     rows.iter().all(|row| is_light(rows, new, row.serial))
@@ -62,8 +59,9 @@ fn has_more_items(rows: &[Row], most: usize) -> bool
 }
 
 /// Why an item is refused, where there would then be so many rows.
-#[tactic(auto, unfolding(crate::specs::Searched::late_cause_with))]
+#[tactic(auto, unfolding(mix_shape::specs::NewItems::late_cause_with))]
 pub fn late_cause(rows: &[Row], new: &NewItem, count: usize) -> Option<GraphFault>
+    requires { RowsRise rows.now }
     ensures { result ≡ late_cause_with new.now rows.now count }
 {
     if !are_shallow(rows, new) {

@@ -9,11 +9,12 @@ ghost use Rattle.mix_graph.specs.Asked.{is_next, nearer};
 ghost use Rattle.mix_model.specs.Ranks.{rank_by, weight_by};
 ghost use Rattle.mix_model.specs.Walks.{leads};
 ghost use Rattle.std.specs.Prelude.{◌&&◌};
-ghost use Rattle.mix_graph.specs.Searched.{next_in, inside_with, flagged_also, chained_in};
+ghost use Rattle.mix_graph.specs.Searched.{RowsRise, next_in, flagged_also, chained_in};
+ghost use Rattle.mix_shape.specs.NewItems.{inside_with};
 
-use crate::refused::NewItem;
 use mix_base::Serial;
 use mix_model::{Kind, Row};
+use mix_shape::NewItem;
 
 /// Whether the serial is in the list.
 pub fn has(serials: &[Serial], serial: Serial) -> bool
@@ -32,27 +33,46 @@ pub fn is_some_of(option: Option<Serial>, serial: Serial) -> bool
     }
 }
 
-/// The row of this serial.
-pub fn row_at(rows: &[Row], serial: Serial) -> Option<&Row>
-    ensures { option_copied result ≡ find (is_at serial) rows.now }
+/// Where the row of this serial is. Rows are by rising serial, so each look halves what is left.
+pub fn place_of(rows: &[Row], serial: Serial) -> Option<usize>
+    requires { RowsRise rows.now }
+    ensures within { IfSome result (λ at. at < length rows.now) }
+    ensures at { IfSome result (λ at. HoldsAt (λ r. r.serial ≡ serial) rows.now at) }
+    ensures none { IfNone result (find (is_at serial) rows.now ≡ None) }
 {
-    rows.iter().find(|row| row.serial.0 == serial.0)
+    match rows.binary_search_by_key(&serial.0, |row| row.serial.0) {
+        Ok(at) => Some(at),
+        Err(_) => None,
+    }
 }
 
-/// Puts on the flags of the rows of this serial.
+/// The row of this serial.
+pub fn row_at(rows: &[Row], serial: Serial) -> Option<&Row>
+    requires { RowsRise rows.now }
+    ensures { option_copied result ≡ find (is_at serial) rows.now }
+{
+    match place_of(rows, serial) {
+        Some(at) => Some(&rows[at]),
+        None => None,
+    }
+}
+
+/// Puts on the flag of the row of this serial.
 pub fn flag_row(rows: &[Row], serial: Serial, flags: &mut [bool])
-    requires { length flags.old ≡ length rows.now }
+    requires each { length flags.old ≡ length rows.now }
+    requires rising { RowsRise rows.now }
     ensures { flags.new ≡ flagged_also (λ x. serial == x) rows.now flags.old }
 {
-    for index in 0..flags.len() {
-        let here = rows[index].serial;
-        flags[index] = flags[index] || serial.0 == here.0;
-    }
+    let Some(at) = place_of(rows, serial) else {
+        return;
+    };
+    flags[at] = true;
 }
 
 /// Puts on the flags of the rows to which a walk of at most so many steps leads.
 pub fn flag_walked(rows: &[Row], rounds: u32, from: Serial, flags: &mut [bool])
-    requires { length flags.old ≡ length rows.now }
+    requires each { length flags.old ≡ length rows.now }
+    requires rising { RowsRise rows.now }
     ensures { flags.new ≡ flagged_also (leads (next_in rows.now) rounds from) rows.now flags.old }
 {
     flag_row(rows, from, flags);
@@ -71,6 +91,7 @@ pub fn flag_walked(rows: &[Row], rounds: u32, from: Serial, flags: &mut [bool])
 
 /// The rank of a row with an item more, or the number of rounds where it is no lower.
 pub fn rank_from(rows: &[Row], new: &NewItem, rounds: u32, of: Serial) -> u32
+    requires { RowsRise rows.now }
     ensures value { result ≡ rank_by (inside_with new.now rows.now) rounds of }
     ensures bound { result ≤ rounds }
 {
@@ -98,6 +119,7 @@ pub fn rank_from(rows: &[Row], new: &NewItem, rounds: u32, of: Serial) -> u32
 
 /// What is left of an allowance after the weight of a row with an item more, where it is no lower.
 pub fn weighed(rows: &[Row], new: &NewItem, rounds: u32, of: Serial, most: u32) -> Option<u32>
+    requires { RowsRise rows.now }
     ensures { MatchOption result (most < weight_by (inside_with new.now rows.now) rounds of)
         (λ left. left + weight_by (inside_with new.now rows.now) rounds of ≡ most) }
 {
@@ -143,23 +165,9 @@ pub fn has_items(kind: Kind) -> bool
     matches!(kind, Kind::Scene | Kind::Group)
 }
 
-/// Where the first row of this serial is.
-pub fn place_of(rows: &[Row], serial: Serial) -> Option<usize>
-    ensures within { IfSome result (λ at. at < length rows.now) }
-    ensures at { IfSome result (λ at. HoldsAt (λ r. r.serial ≡ serial) rows.now at) }
-    ensures none { IfNone result (find (is_at serial) rows.now ≡ None) }
-{
-    for index in 0..rows.len() {
-        let here = rows[index].serial;
-        if here.0 == serial.0 {
-            return Some(index);
-        }
-    }
-    None
-}
-
 /// Whether a walk of at most so many steps leads from one row to the other.
 pub fn leads_to(rows: &[Row], rounds: u32, from: Serial, to: Serial) -> bool
+    requires { RowsRise rows.now }
     ensures { result ≡ leads (next_in rows.now) rounds from to }
 {
     if from.0 == to.0 {
@@ -181,6 +189,7 @@ pub fn leads_to(rows: &[Row], rounds: u32, from: Serial, to: Serial) -> bool
 
 /// Whether a chain of at most so many items leads from one row to the other.
 pub fn chains_to(rows: &[Row], rounds: u32, from: Serial, to: Serial) -> bool
+    requires { RowsRise rows.now }
     ensures { result ≡ leads (chained_in rows.now) rounds from to }
 {
     if from.0 == to.0 {

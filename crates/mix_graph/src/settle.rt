@@ -1,8 +1,9 @@
 //! The settling at the end of each call: what begins to die, and what became active.
-ghost use Rattle.std.specs.Prelude.{◌≡◌, ◌≤◌, ◌+◌, ◌++◌, length, map, find, option_copied, vec_capacity};
-ghost use Rattle.mix_model.specs.Marks.{marked, was_active, since_marked, settled_by, marks_of};
-ghost use Rattle.mix_model.specs.Walks.{is_active, is_showing};
+ghost use Rattle.std.specs.Prelude.{◌≡◌, ◌==◌, ◌≤◌, ◌+◌, ◌++◌, [], length, map, option_copied, vec_capacity};
+ghost use Rattle.mix_model.specs.Marks.{marked, settled_by};
+ghost use Rattle.mix_model.specs.Settle.{newly_dying};
 ghost use Rattle.mix_graph.specs.Settling.{since_by, numbered, begins_to_die, flagged, marked_by};
+ghost use Rattle.mix_graph.specs.Settling.{MarksRise, with_numbers};
 
 use crate::kept::Stood;
 use crate::search::has;
@@ -10,18 +11,43 @@ use crate::sources::Sources;
 use mix_base::Serial;
 use mix_model::Row;
 
-/// The mark of this serial.
-pub fn mark_at(marks: &[Stood], serial: Serial) -> Option<&Stood>
-    ensures { option_copied result ≡ marked marks.now serial }
+fn is_mark_of(mark: &Stood, serial: Serial) -> bool
+    ensures { result ≡ (mark.now.serial == serial) }
 {
-    marks.iter().find(|mark| mark.serial.0 == serial.0)
+    mark.serial.0 == serial.0
 }
 
-/// The number that a row gets.
-fn since_by(marks: &[Stood], clock: u64, serial: Serial, active: bool) -> u64
+/// The mark of this serial.
+fn mark_of(marks: &[Stood], serial: Serial) -> Option<&Stood>
+    requires { MarksRise marks.now }
+    ensures { option_copied result ≡ marked marks.now serial }
+{
+    match marks.binary_search_by_key(&serial.0, |mark| mark.serial.0) {
+        Ok(at) => Some(&marks[at]),
+        Err(_) => None,
+    }
+}
+
+/// The mark of this serial, which is at this place unless rows before it were destroyed.
+pub fn mark_near(marks: &[Stood], at: usize, serial: Serial) -> Option<&Stood>
+    requires { MarksRise marks.now }
+    ensures { option_copied result ≡ marked marks.now serial }
+{
+    if at < marks.len() {
+        let mark = &marks[at];
+        if is_mark_of(mark, serial) {
+            return Some(mark);
+        }
+    }
+    mark_of(marks, serial)
+}
+
+/// The number that the row at this place gets.
+fn since_by(marks: &[Stood], clock: u64, at: usize, serial: Serial, active: bool) -> u64
+    requires { MarksRise marks.now }
     ensures { result ≡ since_by marks.now clock serial active }
 {
-    match mark_at(marks, serial) {
+    match mark_near(marks, at, serial) {
         Some(mark) => {
             if active && !mark.active {
                 clock
@@ -35,12 +61,13 @@ fn since_by(marks: &[Stood], clock: u64, serial: Serial, active: bool) -> u64
 
 /// Writes the number of each row.
 fn write_numbers(rows: &mut Vec<Row>, marks: &[Stood], clock: u64, active: &[bool])
-    requires { length active.now ≡ length rows.old.items }
+    requires each { length active.now ≡ length rows.old.items }
+    requires rising { MarksRise marks.now }
     ensures { rows.new.items ≡ numbered marks.now clock rows.old.items active.now }
 {
     for index in 0..rows.len() {
         let row = &mut rows[index];
-        row.since = since_by(marks, clock, row.serial, active[index]);
+        row.since = since_by(marks, clock, index, row.serial, active[index]);
     }
 }
 
@@ -97,14 +124,35 @@ impl Sources {
         }
     }
 
+    /// Writes the number of each row, by what is active.
+    fn write_activity(&mut self, marks: &[Stood], flags: &mut [bool])
+        requires each { length flags.old ≡ length self.old.rows }
+        requires rising { MarksRise marks.now }
+        ensures { self.new ≡ with_numbers marks.now self.old }
+    {
+        self.flag_active(flags);
+        write_numbers(&mut self.rows, marks, self.clock, flags);
+    }
+
     /// What stands is settled against the marks of when the action began.
     pub fn settle(&mut self, marks: &[Stood], flags: &mut [bool])
-        requires { length flags.old ≡ length self.old.rows }
+        requires each { length flags.old ≡ length self.old.rows }
+        requires rising { MarksRise marks.now }
         ensures { self.new ≡ settled_by marks.now self.old }
     {
         self.flag_unheld(flags);
         push_flagged(self.rows.as_slice(), flags, &mut self.dying);
-        self.flag_active(flags);
-        write_numbers(&mut self.rows, marks, self.clock, flags);
+        self.write_activity(marks, flags);
+    }
+
+    /// The same where nothing begins to die.
+    #[tactic(auto, using(crate::proofs::SettleLemmas::settled_living))]
+    pub fn settle_living(&mut self, marks: &[Stood], flags: &mut [bool])
+        requires each { length flags.old ≡ length self.old.rows }
+        requires rising { MarksRise marks.now }
+        requires living { newly_dying self.old ≡ [] }
+        ensures { self.new ≡ settled_by marks.now self.old }
+    {
+        self.write_activity(marks, flags);
     }
 }

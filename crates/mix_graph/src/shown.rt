@@ -7,8 +7,8 @@ ghost use Rattle.mix_model.specs.declared.row.Row.{Row};
 ghost use Rattle.mix_model.specs.Lookups.{row_of};
 ghost use Rattle.mix_model.specs.Edits.{group_created, shown_input_created};
 ghost use Rattle.mix_model.specs.Causes.{shown_early, shown_cause};
-ghost use Rattle.mix_graph.specs.Refused.{RefusedBy};
-ghost use Rattle.mix_graph.specs.Created.{shown_added, listed, next_item};
+ghost use Rattle.mix_shape.specs.Refused.{RefusedBy};
+ghost use Rattle.mix_shape.specs.Created.{shown_added, listed, next_item};
 ghost use Rattle.mix_graph.specs.Searched.{with_item_on};
 ghost use Rattle.std.specs.Prelude.{◌-◌, take};
 ghost use Rattle.mix_model.specs.declared.item.ItemSpec.{ItemSpec};
@@ -18,11 +18,12 @@ ghost use Rattle.mix_model.specs.Causes.{item_count};
 
 use crate::added::push_item_at;
 use crate::created::{new_row, reserve_source};
-use crate::refused::{NewItem, late_cause};
+use crate::refused::late_cause;
 use crate::search::{has_items, place_of};
 use crate::sources::Sources;
 use mix_base::{ItemId, Name, NoMemory, Serial};
 use mix_model::{GraphFault, ItemSpec, Kind, Row, Settings};
+use mix_shape::NewItem;
 use std::alloc::Global;
 
 /// Takes the last row away.
@@ -151,7 +152,7 @@ impl Sources {
     }
 
     /// A group, with an item of its parent that shows it.
-    #[tactic(auto, unfolding(crate::specs::Created::shown_added, mix_model::specs::Edits::group_created, mix_model::specs::Edits::item_added))]
+    #[tactic(auto, unfolding(mix_shape::specs::Created::shown_added, mix_model::specs::Edits::group_created, mix_model::specs::Edits::item_added))]
     pub fn create_group(
         &mut self,
         alloc: Global,

@@ -2,8 +2,10 @@
 ghost use Rattle.std.specs.Prelude.{◌≡◌, ◌≤◌, ◌<◌, ◌+◌, [], OnOk, OnErr, length, vec_capacity, vec_len};
 ghost use Rattle.mix_model.specs.Marks.{marks_of, settled_by};
 ghost use Rattle.mix_model.specs.EditedShape.{EditedShape};
-ghost use Rattle.mix_graph.specs.Settling.{IsTold, no_tally};
-ghost use Rattle.mix_graph.specs.Whole.{BegunAs, IsWhole};
+ghost use Rattle.mix_model.specs.Settle.{newly_dying};
+ghost use Rattle.mix_graph.specs.Settling.{IsTold, MarksRise, no_tally};
+ghost use Rattle.mix_shape.specs.Begun.{BegunAs};
+ghost use Rattle.mix_graph.specs.Whole.{IsWhole};
 
 use crate::kept::Stood;
 use crate::settle::write_marks;
@@ -105,6 +107,22 @@ impl Tally {
         self.showing.truncate(count);
     }
 
+    /// Tells what has changed.
+    fn tell(&mut self, sources: &Sources)
+        requires count { self.old.count ≡ length sources.now.rows }
+        requires rising { MarksRise self.old.begun }
+        ensures begun { self.new.begun ≡ self.old.begun }
+        ensures told { IsTold self.new sources.now }
+    {
+        tell(
+            sources,
+            self.begun.as_slice(),
+            self.active.as_mut_slice(),
+            self.showing.as_mut_slice(),
+            &mut self.changes,
+        );
+    }
+
     /// Settles the sources against the marks, and tells what has changed.
     pub fn settle(&mut self, sources: &mut Sources)
         requires count { self.old.count ≡ length sources.old.rows }
@@ -115,13 +133,21 @@ impl Tally {
         ensures whole { IsWhole self.new sources.new }
     {
         sources.settle(self.begun.as_slice(), self.active.as_mut_slice());
-        tell(
-            sources,
-            self.begun.as_slice(),
-            self.active.as_mut_slice(),
-            self.showing.as_mut_slice(),
-            &mut self.changes,
-        );
+        self.tell(sources);
+    }
+
+    /// The same where nothing begins to die, as after something new that is held.
+    pub fn settle_living(&mut self, sources: &mut Sources)
+        requires count { self.old.count ≡ length sources.old.rows }
+        requires edited { EditedShape sources.old }
+        requires begun { BegunAs self.old.begun sources.old.clock }
+        requires living { newly_dying sources.old ≡ [] }
+        ensures state { sources.new ≡ settled_by self.old.begun sources.old }
+        ensures begun { self.new.begun ≡ self.old.begun }
+        ensures whole { IsWhole self.new sources.new }
+    {
+        sources.settle_living(self.begun.as_slice(), self.active.as_mut_slice());
+        self.tell(sources);
     }
 
     /// An action begins: nothing has changed.
@@ -138,13 +164,7 @@ impl Tally {
             self.showing.as_slice(),
             &mut self.begun,
         );
-        tell(
-            sources,
-            self.begun.as_slice(),
-            self.active.as_mut_slice(),
-            self.showing.as_mut_slice(),
-            &mut self.changes,
-        );
+        self.changes.clear();
     }
 
     pub fn changes(&self) -> &[Change]

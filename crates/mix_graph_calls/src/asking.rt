@@ -22,6 +22,14 @@ fn item_at(graph: &Graph, index: u32, parent: Serial) -> Answer {
     }
 }
 
+/// The clock of the action in which it became active last; 0 where it never was.
+fn since(graph: &Graph, serial: Serial) -> Answer {
+    match graph.row(serial) {
+        Some(view) => Answer::Number(view.since),
+        None => Answer::Missing,
+    }
+}
+
 /// A question on one source or item.
 pub fn look(alloc: Global, graph: &Graph, looking: Looking, given: &Given<'_>) -> Answer {
     let serial = given.source();
@@ -33,6 +41,7 @@ pub fn look(alloc: Global, graph: &Graph, looking: Looking, given: &Given<'_>) -
         Looking::IsThere => Answer::Truth(graph.row(serial).is_some()),
         Looking::ItemAt => item_at(graph, given.numbers[0], given.second()),
         Looking::Items => Answer::Items(serial),
+        Looking::Since => since(graph, serial),
     }
 }
 
@@ -63,6 +72,7 @@ pub fn count(graph: &Graph, counting: Counting, given: &Given<'_>) -> Answer {
         Counting::Query => query(graph, given.number()),
         Counting::Dying => Answer::Number(u64::from(graph.dying())),
         Counting::Frames => Answer::Number(graph.frames() as u64),
+        Counting::Clock => Answer::Number(graph.clock()),
         Counting::Shape => {
             graph.has_shape();
             Answer::Done

@@ -47,6 +47,7 @@ pub enum Showing {
     Preview,
     ClearPreview,
     Begin,
+    Clock,
 }
 
 /// A question on one source or item.
@@ -59,6 +60,7 @@ pub enum Looking {
     IsThere,
     ItemAt,
     Items,
+    Since,
 }
 
 /// A question on all of them.
@@ -72,6 +74,7 @@ pub enum Counting {
     Query,
     Dying,
     Frames,
+    Clock,
     Shape,
 }
 
@@ -99,7 +102,7 @@ pub enum Call {
 }
 
 /// The forms of lines: `#` stands for a number, `_` for a name.
-pub static FORMS: [(&str, Call); 51] = [
+pub static FORMS: [(&str, Call); 54] = [
     ("scene _", Call::Make(Making::Scene)),
     ("group _ in #", Call::Make(Making::Group)),
     ("tone _", Call::Make(Making::Tone)),
@@ -129,6 +132,7 @@ pub static FORMS: [(&str, Call); 51] = [
     ("put # on preview", Call::Show(Showing::Preview)),
     ("clear preview", Call::Show(Showing::ClearPreview)),
     ("begin", Call::Show(Showing::Begin)),
+    ("clock #", Call::Show(Showing::Clock)),
     ("find _", Call::Look(Looking::Find)),
     ("is # active", Call::Look(Looking::IsActive)),
     ("is # showing", Call::Look(Looking::IsShowing)),
@@ -136,6 +140,7 @@ pub static FORMS: [(&str, Call); 51] = [
     ("is # there", Call::Look(Looking::IsThere)),
     ("item at # of #", Call::Look(Looking::ItemAt)),
     ("items of #", Call::Look(Looking::Items)),
+    ("since of #", Call::Look(Looking::Since)),
     ("active", Call::Count(Counting::Active)),
     ("showing", Call::Count(Counting::Showing)),
     ("changes", Call::Count(Counting::Changes)),
@@ -144,6 +149,7 @@ pub static FORMS: [(&str, Call); 51] = [
     ("query #", Call::Count(Counting::Query)),
     ("dying", Call::Count(Counting::Dying)),
     ("frames", Call::Count(Counting::Frames)),
+    ("clock", Call::Count(Counting::Clock)),
     ("shape", Call::Count(Counting::Shape)),
     ("next serial", Call::Next(Next::Serial)),
     ("next hold", Call::Next(Next::Hold)),

@@ -1,10 +1,21 @@
 //! Calls on channels and the preview, and the beginning of an action.
+ghost use Rattle.std.specs.Prelude.{◌≤◌};
+
 use crate::answer::{Answer, done};
 use crate::forms::Showing;
 use crate::given::Given;
 use crate::room::may_be_program;
 use crate::stage::Stage;
 use mix_base::Serial;
+use mix_graph::Graph;
+
+/// An action begins, and its clock is this one.
+fn begin_at(graph: &mut Graph, clock: u64)
+    requires { graph.old.present.clock ≤ clock }
+{
+    graph.begin_changes();
+    graph.set_clock(clock);
+}
 
 impl Stage {
     /// The program comes to rest on a scene.
@@ -48,6 +59,15 @@ impl Stage {
         Answer::Done
     }
 
+    /// An action begins, at a clock that isn't below the present one.
+    fn tick(&mut self, clock: u64) -> Answer {
+        if clock < self.graph.clock() {
+            return Answer::Beyond;
+        }
+        begin_at(&mut self.graph, clock);
+        Answer::Done
+    }
+
     pub fn show(&mut self, showing: Showing, given: &Given<'_>) -> Answer {
         let [first, second, _] = given.numbers;
         match showing {
@@ -58,6 +78,7 @@ impl Stage {
             Showing::Preview => self.show_on_preview(given.source()),
             Showing::ClearPreview => self.clear_preview(),
             Showing::Begin => self.begin(),
+            Showing::Clock => self.tick(given.number()),
         }
     }
 }

@@ -1,78 +1,54 @@
 //! From a JSON value to its text.
-ghost use Rattle.std.specs.Prelude.{◌≡◌, false, IfOk};
-ghost use Rattle.serde_json.specs.View.{view, items_view, members_view};
-ghost use Rattle.serde_json.specs.Written.{has_float, items_have_float, members_have_float};
+ghost use Rattle.std.specs.Prelude.{◌≡◌, ◌≤◌, [], false, IfOk, IsUtf8, Some};
+ghost use Rattle.json.specs.Lex.{tokens};
+ghost use Rattle.serde_json.specs.Data.{depth};
 ghost use Rattle.mix_base.specs.Json.{has_frac};
-ghost use Rattle.mix_json.specs.Writing.{data_of, items_data, members_data, json_text};
+ghost use Rattle.mix_json.specs.Growing.{grown_text};
+ghost use Rattle.mix_json.specs.Reading.{json_of};
+ghost use Rattle.mix_json.specs.Writing.{data_of, json_text};
 
-use mix_base::{Json, JsonObj, NoMemory, Text};
-use serde_json::{Map, Value};
+use crate::pieces::put;
+use json::Writer;
+use mix_base::{Json, NoMemory, Text};
 use std::alloc::Global;
 
+/// The bytes for which there is room at the start.
+const ROOM: usize = 256;
+
 /// The compact text of a value, the keys of its objects in byte order.
-#[tactic(auto, unfolding(crate::specs::Writing::json_text))]
+#[tactic(auto, using(crate::proofs::TextLemmas::whole))]
 pub fn write(alloc: Global, value: &Json) -> Result<Text, NoMemory>
     requires whole { has_frac value.now ≡ false }
     ensures value { IfOk result (λ text. text ≡ json_text value.now) }
+    ensures reads_back { IfOk result
+        (λ text. depth (data_of value.now) ≤ 127 → json_of text ≡ Some value.now) }
 {
-    let value = convert(alloc, value)?;
-    let text = value.to_string(alloc);
-    drop(value);
-    Text::from_string(text?)
+    let mut out = empty(alloc)?;
+    let Ok(()) = put(&mut out, value) else {
+        drop(out);
+        return Err(NoMemory);
+    };
+    finish(out)
 }
 
-#[cycle(convert)]
-fn convert(alloc: Global, value: &Json) -> Result<Value, NoMemory>
-    ensures value { IfOk result (λ v. view v ≡ data_of value.now) }
-    ensures whole { IfOk result (λ v. has_float (view v) ≡ false) }
+/// A text in which nothing stands yet.
+pub fn empty(alloc: Global) -> Result<Writer, NoMemory>
+    ensures tokens { IfOk result (λ out. out.tokens ≡ []) }
+    ensures before { IfOk result (λ out. out.before ≡ []) }
 {
-    match value {
-        Json::Null | Json::Frac => Ok(Value::Null),
-        Json::Bool(truth) => Ok(Value::Bool(*truth)),
-        Json::Int(number) => Ok(Value::from(*number)),
-        Json::Text(text) => Ok(Value::String(String::from_str(alloc, text.as_str())?)),
-        Json::List(items) => Ok(Value::Array(convert_items(alloc, items.as_slice())?)),
-        Json::Obj(members) => Ok(Value::Object(convert_members(alloc, members)?)),
-    }
+    Ok(Writer::new(Vec::with_capacity(alloc, ROOM)?))
 }
 
-#[cycle(convert)]
-fn convert_items(alloc: Global, items: &[Json]) -> Result<Vec<Value>, NoMemory>
-    ensures value { IfOk result (λ v. items_view v.items ≡ items_data items.now) }
-    ensures whole { IfOk result (λ v. items_have_float (items_view v.items) ≡ false) }
+/// The text of the tokens.
+#[tactic(auto, unfolding(crate::specs::Growing::grown_text))]
+pub fn finish(out: Writer) -> Result<Text, NoMemory>
+    requires { out.before ≡ [] }
+    ensures text { IfOk result (λ text. text ≡ grown_text out.tokens) }
+    ensures again { tokens (grown_text out.tokens) ≡ out.tokens }
+    ensures utf8 { IsUtf8 (grown_text out.tokens) }
 {
-    let mut values = Vec::with_capacity(alloc, items.len())?;
-    for item in items {
-        let Ok(value) = convert(alloc, item) else {
-            drop(values);
-            return Err(NoMemory);
-        };
-        values.push_reserved(value);
+    match String::from_utf8(out.into_inner()) {
+        Ok(text) => Text::from_string(text),
+        Err(_) => unreachable!(),
     }
-    Ok(values)
-}
-
-#[cycle(convert)]
-fn convert_members(alloc: Global, members: &JsonObj) -> Result<Map<String, Value>, NoMemory>
-    ensures value { IfOk result (λ m. members_view m.entries ≡ members_data members.now) }
-    ensures whole { IfOk result (λ m. members_have_float (members_view m.entries) ≡ false) }
-{
-    let mut map = Map::new(alloc);
-    for member in members.as_slice() {
-        let Ok(key) = String::from_str(alloc, member.key.as_str()) else {
-            drop(map);
-            return Err(NoMemory);
-        };
-        let Ok(value) = convert(alloc, &member.value) else {
-            drop(key);
-            drop(map);
-            return Err(NoMemory);
-        };
-        let Ok(before) = map.insert(key, value) else {
-            drop(map);
-            return Err(NoMemory);
-        };
-        drop(before);
-    }
-    Ok(map)
 }

@@ -1,9 +1,14 @@
 pub mod Bytes
 pub mod Calls
 pub mod Devices
+pub mod Doors
 pub mod Faults
 pub mod Filling
 pub mod Lines
+pub mod Links
 pub mod Meeting
 pub mod Memory
+pub mod MemoryDoors
+pub mod MemoryLinks
 pub mod Moving
+pub mod Paces

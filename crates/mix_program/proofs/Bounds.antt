@@ -1,15 +1,17 @@
 -- No more than so many bytes are read.
 use Rattle.std.proofs.Common.{◌≡◌, ℕ, ◌+◌, ◌-◌, ◌<◌, ◌≤◌, Bool, true, false, cond, nat_le, nat_lt}
-use Rattle.std.proofs.Common.{List, [], ◌∷◌, length, refl, ap, arith, codes}
-use Rattle.std.proofs.Common.{Option, Some, None}
+use Rattle.std.proofs.Common.{List, [], ◌∷◌, length, refl, sym, ap, ◌∙◌, arith, codes}
+use Rattle.std.proofs.Common.{Option, Some, None, option_map}
 use Rattle.std.proofs.lemmas.Bool.{lt-ltb, ltb-true, leb-true, leb-false}
 use Rattle.mix_outside.specs.Lines.{Lines, End, Cut, Whole, is_feed, onto, lines_of}
+use Rattle.mix_model.specs.declared.collection.Collection.{Collection}
 use Rattle.mix_model.specs.declared.collection.Line.{Line}
 use Rattle.mix_program.specs.Collections.{most_bytes, collection_in, collection_read, lines_in}
 use Rattle.mix_program.specs.Collections.{Head, head_in, login_in, login_or, last_in, name_in}
 use Rattle.mix_program.specs.Collections.{line_in, line_or_last, where_it, is_format_line, canvas_in}
-use Rattle.mix_program.specs.Collections.{rate_in, record_in, secret_in, collection_from, ◌>>=◌}
-use Rattle.mix_program.specs.Within.{within}
+use Rattle.mix_program.specs.Collections.{rate_in, record_in, secret_in, collection_from, part_in, ◌>>=◌}
+use Rattle.mix_program.specs.Within.{within, lines_left}
+use Rattle.mix_program.specs.declared.collection.feed.Feed.{Feed}
 
 -- the bytes that lines take, each line feed among them
 abbrev size_of : Lines → ℕ
@@ -92,33 +94,40 @@ login_torn End h = h
 login_torn (Cut line) h = refl
 login_torn (Whole line more) h = login_kept (Whole line more) more (secret_in line) h h
 
--- where there is a head, a line behind it is cut
+-- where there is a part, or a head, a line behind it is cut
+abbrev is_part_torn : {A : Type 0} → Option (A × Lines) → Bool
+is_part_torn None = true
+is_part_torn (Some part) = is_torn part.1
+
 abbrev is_rest_torn : Option Head → Bool
 is_rest_torn None = true
 is_rest_torn (Some head) = is_torn head.rest
 
-rest_torn : {A : Type 0} (o : Option A) (f : A → Option Head) →
-    ((a : A) → is_rest_torn (f a) ≡ true) → is_rest_torn (o >>= f) ≡ true
-rest_torn None f h = refl
-rest_torn (Some a) f h = h a
+said_torn : {A : Type 0} (said : Option A) (more : Lines) → is_torn more ≡ true →
+    is_part_torn (option_map (λ a. (a, more)) said) ≡ true
+said_torn None more h = refl
+said_torn (Some a) more h = h
+
+part_torn : {A : Type 0} (read : List ℕ → Option A) (lines : Lines) → is_torn lines ≡ true →
+    is_part_torn (part_in read lines) ≡ true
+part_torn read End h = refl
+part_torn read (Cut line) h = refl
+part_torn read (Whole line more) h = said_torn (read line) more h
+
+rest_torn : {A : Type 0} (part : Option (A × Lines)) (f : A × Lines → Option Head) →
+    is_part_torn part ≡ true →
+    ((p : A × Lines) → is_torn p.1 ≡ true → is_rest_torn (f p) ≡ true) →
+    is_rest_torn (part >>= f) ≡ true
+rest_torn None f h g = refl
+rest_torn (Some part) f h g = g part h
 
 head_torn : (lines : Lines) → is_torn lines ≡ true → is_rest_torn (head_in lines) ≡ true
 unfolding head_in
-head_torn End h = refl
-head_torn (Cut a) h = refl
-head_torn (Whole a End) h = rest_torn (where_it is_format_line a) _ (λ _. refl)
-head_torn (Whole a (Cut b)) h = rest_torn (where_it is_format_line a) _ (λ _. refl)
-head_torn (Whole a (Whole b End)) h = rest_torn (where_it is_format_line a) _
-    (λ _. rest_torn (canvas_in b) _ (λ _. refl))
-head_torn (Whole a (Whole b (Cut c))) h = rest_torn (where_it is_format_line a) _
-    (λ _. rest_torn (canvas_in b) _ (λ _. refl))
-head_torn (Whole a (Whole b (Whole c End))) h = rest_torn (where_it is_format_line a) _
-    (λ _. rest_torn (canvas_in b) _ (λ _. rest_torn (rate_in c) _ (λ _. refl)))
-head_torn (Whole a (Whole b (Whole c (Cut d)))) h = rest_torn (where_it is_format_line a) _
-    (λ _. rest_torn (canvas_in b) _ (λ _. rest_torn (rate_in c) _ (λ _. refl)))
-head_torn (Whole a (Whole b (Whole c (Whole d more)))) h = rest_torn (where_it is_format_line a) _
-    (λ _. rest_torn (canvas_in b) _ (λ canvas. rest_torn (rate_in c) _
-    (λ _. rest_torn (record_in canvas d) _ (λ _. h))))
+head_torn lines h =
+    rest_torn (part_in (where_it is_format_line) lines) _ (part_torn _ lines h) (λ a torn_a.
+    rest_torn (part_in canvas_in a.1) _ (part_torn _ a.1 torn_a) (λ b torn_b.
+    rest_torn (part_in rate_in b.1) _ (part_torn _ b.1 torn_b) (λ c torn_c.
+    rest_torn (part_in (record_in b.0) c.1) _ (part_torn _ c.1 torn_c) (λ d torn_d. torn_d))))
 
 none_torn : (head : Option Head) → is_rest_torn head ≡ true →
     (head >>= (λ h. lines_in h.canvas (login_in h.rest).1 >>= (λ registry.
@@ -143,7 +152,13 @@ bounded_at false bytes h =
     collection_torn _ (too_large most_bytes (lines_of bytes) (omega (arith, large)))
 
 -- what is written by the lines that are read is the collection of all bytes
-pub bounded : (bytes : List ℕ) →
+bounded : (bytes : List ℕ) →
     collection_in (within most_bytes (lines_of bytes)) ≡ collection_read bytes
 unfolding collection_read
 bounded bytes = bounded_at (nat_le (length bytes) most_bytes) bytes refl
+
+-- what a reader with all its room that has read nothing ahead reads is the collection of all bytes
+pub all_read : (feed : Feed) (bytes : List ℕ) (found : Option Collection) → feed.ahead ≡ [] →
+    feed.room ≡ most_bytes → collection_in (lines_left feed bytes) ≡ found →
+    collection_read bytes ≡ found
+all_read feed bytes found none room is = sym (bounded bytes) ∙ rw (none, room) at is

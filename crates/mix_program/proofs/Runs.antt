@@ -1,22 +1,27 @@
 -- How runs go on and end.
-use Rattle.std.proofs.Common.{is_some, IfSome, ◌≡◌, ℕ, ◌+◌, ◌-◌, ◌<◌, ◌≤◌, Bool, true, false, cond, nat_lt, List, [], ◌∷◌, ◌++◌, length, refl, sym, ap, ◌∙◌, subst, arith, Ok, Some, Option}
+use Rattle.std.proofs.Common.{is_some, IfSome, ◌≡◌, ℕ, ◌+◌, ◌-◌, ◌<◌, ◌≤◌, Bool, true, false, cond, nat_lt, List, [], ◌∷◌, ◌++◌, length, refl, sym, ap, ◌∙◌, subst, arith, Ok, Some, Option, Result, Err, length-append, zero-add}
 use Rattle.std.specs.Prelude.{◌==◌}
 use Rattle.std.proofs.lemmas.List.{append-nil, append_assoc}
+use Rattle.std.proofs.lemmas.List.Sums.{sum_by-append}
 use Rattle.std.proofs.lemmas.Bool.Decides.{nat_tests}
 use Rattle.std.proofs.lemmas.Bool.{ltb-true}
 use Rattle.mix_outside.specs.Bytes.{AppendsPrefix}
 use Rattle.mix_outside.specs.Lines.{Lines, End, Cut, Whole, last_line, bytes_of_first}
+use Rattle.mix_outside.specs.declared.lines.Met.{Met}
+use Rattle.mix_outside.specs.declared.lines.Met.TheVariants as mets
+use Rattle.mix_outside.specs.Meeting.{FitsIn, Meets}
 use Rattle.mix_base.specs.declared.limits.Limits.{Limits}
 use Rattle.mix_model.specs.declared.action.Action.{Action}
 use Rattle.mix_model.specs.declared.action.Entry.{Entry}
 use Rattle.mix_model.specs.declared.said.Said.{Said}
 use Rattle.mix_model.specs.declared.reply.Reply.{Reply}
 use Rattle.mix_script.specs.Lines.{action_of}
+use Rattle.mix_script.specs.declared.bad_line.BadLine.{BadLine}
 use Rattle.mix_engine.specs.declared.own.Own.{Own}
 use Rattle.mix_engine.specs.declared.own.Own.TheVariants as own
 use Rattle.mix_model.specs.declared.reply.Answer.{Answer}
 use Rattle.mix_engine.specs.Engines.{EngineModel}
-use Rattle.mix_engine.specs.Engines.{acted, with_entry, present}
+use Rattle.mix_engine.specs.Engines.{acted, with_entry, present, line_bytes, text_bytes}
 use Rattle.mix_engine.specs.Answers.{Agrees, answer_to}
 use Rattle.mix_engine.specs.Built.{is_built}
 use Rattle.mix_engine.specs.Mixer.{Mixer}
@@ -27,7 +32,10 @@ use Rattle.mix_model.specs.State.{StudioState}
 use Rattle.mix_program.specs.Output.{Written, before, lines_by, lines_to, reply_lines, IsPaintable}
 use Rattle.mix_program.specs.PictureText.{frame_line}
 use Rattle.mix_program.specs.Run.{run, turn, done, not_built, full, next_line, room_for, entry_of}
-use Rattle.mix_program.specs.Ends.{Goes, Stops, Ends}
+use Rattle.mix_program.specs.Ends.{Goes, Stops, Ends, Turned, Follows, Puts, ended_by}
+use Rattle.mix_program.specs.Ends.{EndsAt, last_written}
+use Rattle.mix_program.specs.declared.running.Wrote.{Wrote}
+use Rattle.mix_program.specs.declared.running.Wrote.TheVariants as wrote
 use Rattle.mix_program.specs.declared.running.Finished.TheVariants.{Done}
 use Rattle.mix_program.specs.declared.running.Ended.{Ended}
 use Rattle.mix_program.specs.declared.running.Ended.TheVariants as ends
@@ -220,23 +228,45 @@ module _ (old mid new : List ℕ) (all : Written) (limits : Limits) (start : Mix
   whole_goes after line more is fits h = goes_more old mid new all _ _ goes
       (rw is (rw (run-whole limits start journal room line more (rw is_limit at fits)) (h _)))
 
-  pub past_ends : (e : Ended) → limit < bytes_of_first now → Ends e mid new full →
+  at_last : (none : Bool) (e : Ended) (line : List ℕ) (number : ℕ) →
+      (length line == 0) ≡ none → now ≡ last_line line → length line ≤ limit →
+      number ≡ next_line journal → Ends e mid new (cond none done (not_built number)) →
       Ends e old new all
-  past_ends e over h = goes_ends e old mid new all _ goes
-      (rw (run-over limits start journal room now (rw is_limit at over)) h)
-
-  pub cut_ends : (e : Ended) (line : List ℕ) (number : ℕ) → now ≡ last_line line →
-      0 < length line → length line ≤ limit → number ≡ next_line journal →
-      Ends e mid new (not_built number) → Ends e old new all
-  cut_ends e line number is some fits is_next h = goes_ends e old mid new all _ goes
+  at_last true e line number none is fits is_next h =
+      let nothing : length line ≡ 0 = grind (arith, nat_tests) in
+      goes_ends e old mid new all _ goes
+      (rw is (rw (run-last limits start journal room line nothing) h))
+  at_last false e line number none is fits is_next h =
+      let some : 0 < length line = grind (arith, nat_tests) in
+      goes_ends e old mid new all _ goes
       (rw is (rw (run-cut limits start journal room line some (rw is_limit at fits))
       (let P : ℕ → Type 0 = λ n. Ends e mid new (not_built n) in subst P is_next h)))
 
-  pub last_ends : (line : List ℕ) → now ≡ last_line line → length line ≡ 0 →
-      Ends (ends.Whole Done) old mid all
-  last_ends line is none = goes_ends (ends.Whole Done) old mid mid all _ goes
-      (rw is (rw (run-last limits start journal room line none)
-      (record { held = sym (append-nil mid); told = refl })))
+  pub end_ends : (met : Met) (e : Ended) (line : List ℕ) (number : ℕ) (next : Lines) →
+      (met ≡ mets.Whole → ⊥) → FitsIn met limit line → Meets met limit line now next →
+      number ≡ next_line journal → EndsAt met line number e mid new → Ends e old new all
+  end_ends mets.Whole e line number next other fits meets is_next h = absurd (other refl)
+  end_ends mets.Last e line number next other fits meets is_next h =
+      at_last (length line == 0) e line number refl meets fits is_next h
+  end_ends mets.Past e line number next other fits meets is_next h =
+      goes_ends e old mid new all _ goes
+      (rw (run-over limits start journal room now (rw is_limit at meets)) h)
+  end_ends mets.Failed e line number next other fits meets is_next h =
+      goes_ends e old mid new all _ goes (h _)
+  end_ends mets.NoMemory e line number next other fits meets is_next h =
+      goes_ends e old mid new all _ goes (h _)
+
+-- a run that is done writes nothing more
+pub done_ends : (old : List ℕ) (line : List ℕ) (number : ℕ) → (length line == 0) ≡ true →
+    Ends (ends.Whole Done) old old (last_written line number)
+done_ends old line number none =
+    rw none (record { held = sym (append-nil old); told = refl })
+
+-- a line without a line feed isn't built
+pub refused_ends : (e : Ended) (old new line : List ℕ) (number : ℕ) →
+    (length line == 0) ≡ false → Ends e old new (not_built number) →
+    Ends e old new (last_written line number)
+refused_ends e old new line number some h = rw some h
 
 -- an action that is built was done, and this is its answer
 pub record Tried (answer : Answer) (number : ℕ) (action : Action) (e e' : EngineModel) : Type 0 where
@@ -282,6 +312,61 @@ pub act_stops : (canvas : ℕ × ℕ) (answer : Answer) (e e' : EngineModel) (nu
 act_stops canvas answer e e' number action rest old new same tried h = turn_stops canvas e.start
     e.journal action answer.reply rest old new same tried.built tried.agrees.reply h
 
+-- so it is of whatever was written of them
+act_turns : (w : Wrote) (canvas : ℕ × ℕ) (answer : Answer) (e e' : EngineModel) (number : ℕ)
+    (action : Action) (old new : List ℕ) → canvas ≡ (present e).studio.canvas →
+    number ≡ next_line e.journal → Tried answer number action e e' →
+    Puts w (reply_lines canvas answer.reply) old new →
+    Turned (ended_by w) old new (turn e.start e.journal (Ok action)) e'.journal
+act_turns wrote.All canvas answer e e' number action old new same is_next tried h = λ rest.
+    act_goes canvas answer e e' number action rest old new same is_next tried h
+act_turns wrote.WriteFault canvas answer e e' number action old new same is_next tried h =
+    λ rest. act_stops canvas answer e e' number action rest old new same tried h
+act_turns wrote.NoMemory canvas answer e e' number action old new same is_next tried h =
+    λ rest. act_stops canvas answer e e' number action rest old new same tried h
+
+pub acted_turns : (w : Wrote) (ended : Option Ended) (canvas : ℕ × ℕ) (answer : Answer)
+    (e e' : EngineModel) (number : ℕ) (action : Action) (old new : List ℕ) →
+    ended ≡ ended_by w → canvas ≡ (present e).studio.canvas → number ≡ next_line e.journal →
+    Tried answer number action e e' → Puts w (reply_lines canvas answer.reply) old new →
+    Turned ended old new (turn e.start e.journal (Ok action)) e'.journal
+acted_turns w ended canvas answer e e' number action old new is same is_next tried h =
+    let P : Option Ended → Type 0 =
+    λ d. Turned d old new (turn e.start e.journal (Ok action)) e'.journal in
+    subst P (sym is) (act_turns w canvas answer e e' number action old new same is_next tried h)
+
+-- an action that is built was done, and is the last entry
+act_follows : (w : Wrote) (answer : Answer) (e e' : EngineModel) (number : ℕ)
+    (action : Action) → Tried answer number action e e' →
+    Follows (ended_by w) e e' (line_bytes action)
+act_follows wrote.All answer e e' number action tried =
+    let entry : Entry = record { from = record { pass = 0; number = number - 1 }; action = action } in
+    let longer : e'.journal ≡ e.journal ++ entry ∷ [] =
+    ap (λ (x : EngineModel). x.journal) tried.state in (
+      ap (λ (x : EngineModel). x.start) tried.state,
+      ap (λ (x : EngineModel). x.limits) tried.state,
+      ap length longer ∙ length-append e.journal (entry ∷ []),
+      ap text_bytes longer ∙ sum_by-append (λ (x : Entry). line_bytes x.action) e.journal (entry ∷ [])
+          ∙ ap (λ n. text_bytes e.journal + n) (zero-add (line_bytes action)),
+    )
+act_follows wrote.WriteFault answer e e' number action tried = tt
+act_follows wrote.NoMemory answer e e' number action tried = tt
+
+pub acted_follows : (w : Wrote) (ended : Option Ended) (answer : Answer) (e e' : EngineModel)
+    (number : ℕ) (action : Action) → ended ≡ ended_by w → Tried answer number action e e' →
+    Follows ended e e' (line_bytes action)
+acted_follows w ended answer e e' number action is tried =
+    let P : Option Ended → Type 0 = λ d. Follows d e e' (line_bytes action) in
+    subst P (sym is) (act_follows w answer e e' number action tried)
+
+-- a line that is no action
+pub refused_turns : (e : Ended) (start : Mixer) (journal after : List Entry)
+    (read : Result Action BadLine) (bad : BadLine) (old new : List ℕ) (number : ℕ) →
+    read ≡ Err bad → number ≡ next_line journal → Ends e old new (not_built number) →
+    Turned (Some e) old new (turn start journal read) after
+refused_turns e start journal after read bad old new number is is_next h = λ rest. rw is
+    (let P : ℕ → Type 0 = λ n. Ends e old new (not_built n) in subst P is_next h)
+
 -- the bytes that a line may take, by its number
 pub limit_is : (limits : Limits) (journal : List Entry) (number room limit : ℕ) →
     number ≡ length journal + 1 → limit ≡ cond (nat_lt (number - 1) limits.turns) room 0 →
@@ -307,7 +392,3 @@ fits_line turns number room limit size value fits =
 pub second_empty : {A : Type 0} (xs ys : List A) → xs ++ ys ≡ [] → ys ≡ []
 second_empty [] ys none = none
 second_empty (x ∷ xs) ys none = cc
-
--- a length that is no longer than nothing
-pub no_longer : (n m : ℕ) → true ≡ (n == 0) → m ≡ n → m ≡ 0
-no_longer n m none same = grind (arith, nat_tests)

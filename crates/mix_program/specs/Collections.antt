@@ -140,6 +140,12 @@ next End = None
 next (Cut line) = None
 next (Whole line more) = Some (line, more)
 
+-- what the first line says by this reading, where it has a line feed, and the lines behind it
+abbrev pub part_in : {A : Type 0} → (List ℕ → Option A) → Lines → Option (A × Lines)
+part_in read End = None
+part_in read (Cut line) = None
+part_in read (Whole line more) = option_map (λ a. (a, more)) (read line)
+
 -- what the four lines at the head say, and the lines behind them
 pub record Head : Type 0 where
   pub canvas : ℕ × ℕ
@@ -150,20 +156,16 @@ pub record Head : Type 0 where
 
 unfoldable pub head_in : Lines → Option Head
 head_in lines = do
-  first ← next lines
-  format ← where_it is_format_line first.0
-  second ← next first.1
-  canvas ← canvas_in second.0
-  third ← next second.1
-  rate ← rate_in third.0
-  fourth ← next third.1
-  recorded ← record_in canvas fourth.0
+  format ← part_in (where_it is_format_line) lines
+  canvas ← part_in canvas_in format.1
+  rate ← part_in rate_in canvas.1
+  recorded ← part_in (record_in canvas.0) rate.1
   Some (record {
-    canvas = canvas;
-    rate = rate;
-    i420 = recorded.0;
-    tracks = recorded.1;
-    rest = fourth.1;
+    canvas = canvas.0;
+    rate = rate.0;
+    i420 = recorded.0.0;
+    tracks = recorded.0.1;
+    rest = recorded.1;
   })
 
 abbrev pub login_or : Lines → Option (List ℕ × List ℕ) → Lines →

@@ -1,9 +1,13 @@
 -- How a run goes on and ends, over what its sink held before and holds now.
 use Rattle.std.specs.Prelude.{◌≡◌, ◌⊎◌, ℕ, ◌+◌, List, ◌++◌, length, Option, Some, None}
+use Rattle.std.specs.Prelude.{◌==◌, if◌then◌else◌}
 use Rattle.mix_outside.specs.Bytes.{IsPrefix, AppendsPrefix}
+use Rattle.mix_outside.specs.declared.lines.Met.{Met}
+use Rattle.mix_outside.specs.declared.lines.Met.TheVariants as mets
 use Rattle.mix_model.specs.declared.action.Entry.{Entry}
 use Rattle.mix_engine.specs.Engines.{EngineModel, text_bytes}
 use Rattle.mix_program.specs.Output.{Written, before}
+use Rattle.mix_program.specs.Run.{done, not_built, full}
 use Rattle.mix_program.specs.declared.running.Finished.{Finished}
 use Rattle.mix_program.specs.declared.running.Finished.TheVariants.{Done, Full, NotBuilt}
 use Rattle.mix_program.specs.declared.running.Ended.{Ended}
@@ -48,6 +52,18 @@ abbrev pub Turned : Option Ended → List ℕ → List ℕ → ((List Entry → 
 Turned None old new all after = (rest : List Entry → Written) → Goes old new (all rest) (rest after)
 Turned (Some ended) old new all after = (rest : List Entry → Written) → Ends ended old new (all rest)
 
+-- what is written where only a line without a line feed is left: nothing at the script's end
+abbrev pub last_written : List ℕ → ℕ → Written
+last_written line number = if length line == 0 then done else not_built number
+
+-- how a run ends where no whole line that fits was met
+abbrev pub EndsAt : Met → List ℕ → ℕ → Ended → List ℕ → List ℕ → Type 0
+EndsAt mets.Whole line number ended old new = Unit {0}
+EndsAt mets.Last line number ended old new = Ends ended old new (last_written line number)
+EndsAt mets.Past line number ended old new = Ends ended old new full
+EndsAt mets.Failed line number ended old new = (all : Written) → Ends ended old new all
+EndsAt mets.NoMemory line number ended old new = (all : Written) → Ends ended old new all
+
 -- a piece is written whole; or some front of it, and why no more of it is
 abbrev pub Puts : Wrote → List ℕ → List ℕ → List ℕ → Type 0
 Puts wrote.All piece old new = new ≡ old ++ piece
@@ -60,6 +76,12 @@ Follows None old new bytes = (new.start ≡ old.start) × (new.limits ≡ old.li
     × (length new.journal ≡ length old.journal + 1)
     × (text_bytes new.journal ≡ text_bytes old.journal + bytes)
 Follows (Some ended) old new bytes = Unit {0}
+
+-- how a run goes on behind a piece: a fault and want of memory end it
+abbrev pub ended_by : Wrote → Option Ended
+ended_by wrote.All = None
+ended_by wrote.WriteFault = Some WriteFault
+ended_by wrote.NoMemory = Some NoMemory
 
 -- how a run finished that wrote all its lines
 abbrev pub Finishing : Finished → Ended → Type 0

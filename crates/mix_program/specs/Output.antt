@@ -1,5 +1,5 @@
 -- What a run writes, and how its lines follow from what actions are answered.
-use Rattle.std.specs.Prelude.{ℕ, List, [], ◌++◌, codes, decimal, Some, None, IsTrue}
+use Rattle.std.specs.Prelude.{ℕ, List, [], ◌++◌, codes, decimal, Option, Some, None, IsTrue}
 use Rattle.std.specs.List.{flat_map}
 use Rattle.mix_model.specs.declared.said.Said.{Said}
 use Rattle.mix_model.specs.declared.reply.Reply.{Reply}
@@ -37,6 +37,12 @@ text_line conn said = conn_line (codes ">c") conn (escaped (said_text said))
 abbrev pub told_lines : ℕ → List Said → List ℕ
 told_lines conn said = flat_map (text_line conn) said
 
+-- the lines of all that a connection is told, and that of its close, where it is closed
+abbrev pub said_lines : ℕ → List Said → Option ℕ → List ℕ
+said_lines conn said None = told_lines conn said
+said_lines conn said (Some code) =
+    told_lines conn said ++ conn_line (codes "!c") conn (decimal code)
+
 -- the line of a frame that is given back
 abbrev pub gone_line : ℕ → List ℕ
 gone_line number = codes "f " ++ (decimal number ++ codes "\n")
@@ -62,9 +68,7 @@ abbrev pub reply_lines : ℕ × ℕ → Reply → List ℕ
 reply_lines canvas reply.Full = codes "+ full\n"
 reply_lines canvas (reply.Gone conn) = conn_line (codes "!c") conn (codes "gone")
 reply_lines canvas (reply.Left conn) = codes "-c" ++ (decimal conn ++ codes "\n")
-reply_lines canvas (reply.Told conn told None due) = told_lines conn told
-reply_lines canvas (reply.Told conn told (Some code) due) =
-    told_lines conn told ++ conn_line (codes "!c") conn (decimal code)
+reply_lines canvas (reply.Told conn told close due) = said_lines conn told close
 reply_lines canvas (reply.Frame number shot recording) =
     frame_line number (painted shot number canvas)
 reply_lines canvas reply.NoFrame = codes "v full\n"

@@ -1,4 +1,4 @@
--- What the program makes of words that were read, and of answers of the system, before a run begins.
+-- What the program makes of words that were read before a run begins.
 use Rattle.std.specs.Prelude.{ℕ, List, [], ◌∷◌, codes}
 
 -- the words of a replay that names three files

@@ -16,8 +16,20 @@ pub fn has_special(text: &[u8]) -> bool
     text.iter().any(|b| *b == b'\\' || *b == b'\n')
 }
 
-/// A text as it stands in a line: a backslash is written twice, and a line feed as `\n`.
+/// A text as it stands in a line: a backslash is written twice, and a line feed as `\n`. One without
+/// either is copied once.
 pub fn escape(alloc: Global, text: &str) -> Result<String, NoMemory>
+    ensures value { IfOk result (λ written. string_bytes written ≡ escaped text.now) }
+{
+    if has_special(text.as_bytes()) {
+        escape_special(alloc, text)
+    } else {
+        Ok(String::from_str(alloc, text)?)
+    }
+}
+
+/// The same, byte by byte.
+fn escape_special(alloc: Global, text: &str) -> Result<String, NoMemory>
     ensures value { IfOk result (λ written. string_bytes written ≡ escaped text.now) }
 {
     let bytes = escape_bytes(alloc, text.as_bytes())?;

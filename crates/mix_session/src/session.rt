@@ -15,7 +15,7 @@ use crate::op::Op;
 use crate::request::{batch, request};
 use crate::secret::Secret;
 use mix_base::{Bytes32, Json, JsonObj, NoMemory, Text};
-use mix_json::JsonFault;
+use mix_json::{JsonFault, JsonReader};
 use mix_model::{Login, Message, Said};
 use std::alloc::Global;
 use std::marker::Model;
@@ -101,15 +101,21 @@ impl Session {
         }
     }
 
-    /// What a message comes to. The session stays as it is until the outcome is taken.
-    pub fn hear(&self, alloc: Global, message: &Message) -> Result<Heard, NoMemory>
+    /// What a message comes to. The session stays as it is until the outcome is taken. The reader
+    /// lends the room that reading takes.
+    pub fn hear(
+        &self,
+        alloc: Global,
+        reader: &mut JsonReader,
+        message: &Message,
+    ) -> Result<Heard, NoMemory>
         ensures reply { IfOk result (λ heard.
             heard ≡ hear self.now.secret self.now.challenge self.now.mask message.now) }
     {
         let Message::Text(text) = message else {
             return Ok(Heard::Close(NOT_DECODED));
         };
-        match heard_text(alloc, self.expected.as_ref(), self.mask, text) {
+        match heard_text(alloc, reader, self.expected.as_ref(), self.mask, text) {
             Ok(heard) => Ok(heard),
             Err(Fault::Close(code)) => Ok(Heard::Close(code)),
             Err(Fault::NoMemory) => Err(NoMemory),
@@ -135,10 +141,10 @@ impl Session {
 
 /// The fields of a message.
 #[tactic(auto, unfolding(crate::specs::Hear::message_of))]
-fn message(alloc: Global, text: &Text) -> Result<JsonObj, Fault>
+fn message(reader: &mut JsonReader, text: &Text) -> Result<JsonObj, Fault>
     ensures value { Answers result (message_of text.now) }
 {
-    match mix_json::read(alloc, text.bytes()) {
+    match reader.read(text.bytes()) {
         Ok(Json::Obj(fields)) => Ok(fields),
         Ok(other) => {
             drop(other);
@@ -179,6 +185,7 @@ fn of_kind(
 #[tactic(auto, unfolding(crate::specs::Hear::text_heard))]
 fn heard_text(
     alloc: Global,
+    reader: &mut JsonReader,
     expected: Option<&Text>,
     mask: Option<u32>,
     text: &Text,
@@ -188,7 +195,7 @@ fn heard_text(
     if text.bytes().len() > MOST_BYTES {
         return Err(Fault::Close(NOT_DECODED));
     }
-    let message = message(alloc, text)?;
+    let message = message(reader, text)?;
     let number = match whole_at(&message, "op") {
         Ok(number) => number,
         Err(code) => {

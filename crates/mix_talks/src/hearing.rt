@@ -1,5 +1,6 @@
 //! What messages come to.
 use mix_base::{Bytes, Bytes32, NoMemory, Text, TextFault};
+use mix_json::JsonReader;
 use mix_model::{Action, Message, Said};
 use mix_script::{BadLine, read_line};
 use mix_session::{Heard, Secret, Session};
@@ -79,7 +80,7 @@ fn identified(alloc: Global) -> Result<Session, NoMemory> {
 
 /// The code that a message is closed with, or else the op of its answer.
 fn answered(alloc: Global, session: &Session, message: &Message) -> Result<String, NoMemory> {
-    let heard = session.hear(alloc, message)?;
+    let heard = heard_by(alloc, session, message)?;
     let number = number_of(&heard);
     drop(heard);
     Ok(format!(in alloc; "{number}")?)
@@ -170,8 +171,16 @@ fn message(alloc: Global, form: &str, bytes: Vec<u8>) -> Result<Option<Message>,
 /// What a session hears of a text.
 pub fn hear(alloc: Global, session: &Session, text: &str) -> Result<Heard, NoMemory> {
     let message = Message::Text(Text::from_str(alloc, text)?);
-    let heard = session.hear(alloc, &message);
+    let heard = heard_by(alloc, session, &message);
     drop(message);
+    heard
+}
+
+/// What a session hears of a message, with a reader of its own.
+fn heard_by(alloc: Global, session: &Session, message: &Message) -> Result<Heard, NoMemory> {
+    let mut reader = JsonReader::new(alloc)?;
+    let heard = session.hear(alloc, &mut reader, message);
+    drop(reader);
     heard
 }
 

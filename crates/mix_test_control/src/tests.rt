@@ -3,8 +3,6 @@ mod conversations;
 mod copied;
 mod engines;
 mod fanouts;
-mod graphs;
 mod have;
 mod histories;
 mod masks;
-mod since;

@@ -55,7 +55,9 @@ pub fn canvas_in(alloc: Global, line: &[u8]) -> Result<Option<(u32, u32)>, NoMem
     let Some(items) = list_behind(alloc, b"canvas", line)? else {
         return Ok(None);
     };
-    match numbers_in(items.as_slice()) {
+    let canvas = numbers_in(items.as_slice());
+    drop(items);
+    match canvas {
         Some(canvas) if is_canvas(canvas) => Ok(Some(canvas)),
         _ => Ok(None),
     }
@@ -70,7 +72,9 @@ pub fn rate_in(alloc: Global, line: &[u8]) -> Result<Option<Rate>, NoMemory>
     let Some(items) = list_behind(alloc, b"rate", line)? else {
         return Ok(None);
     };
-    let Some((num, den)) = numbers_in(items.as_slice()) else {
+    let numbers = numbers_in(items.as_slice());
+    drop(items);
+    let Some((num, den)) = numbers else {
         return Ok(None);
     };
     let rate = Rate { num, den };
@@ -119,7 +123,9 @@ pub fn record_in(
     let Some(items) = list_behind(alloc, b"record", line)? else {
         return Ok(None);
     };
-    match record_from(items.as_slice()) {
+    let record = record_from(items.as_slice());
+    drop(items);
+    match record {
         Some((i420, tracks)) if is_format(canvas, i420, tracks) => {
             Ok(Some((i420, tracks as u8)))
         }
@@ -168,7 +174,11 @@ pub fn secret_in(alloc: Global, line: &[u8]) -> Result<Option<(Text, Bytes32)>, 
     ensures value { IfOk result (λ secret. secret ≡ secret_in line.now) }
 {
     match list_behind(alloc, b"secret", line)? {
-        Some(items) => secret_from(items.as_slice()),
+        Some(items) => {
+            let secret = secret_from(items.as_slice());
+            drop(items);
+            secret
+        }
         None => Ok(None),
     }
 }
@@ -198,7 +208,11 @@ pub fn name_in(alloc: Global, word: &[u8], line: &[u8]) -> Result<Option<Name>, 
     ensures valid { IfOk result (λ name. IfSome name (λ n. IsTrue (is_name n))) }
 {
     match list_behind(alloc, word, line)? {
-        Some(items) => Ok(only_name(items.as_slice())),
+        Some(items) => {
+            let name = only_name(items.as_slice());
+            drop(items);
+            Ok(name)
+        }
         None => Ok(None),
     }
 }

@@ -32,12 +32,16 @@ pub fn read_login<C: Source>(
     }
     match secret_in(alloc, feed.line.as_slice())? {
         None => Ok(Some(None)),
-        Some(secret) => {
-            if feed.take_line(source)? {
-                Ok(Some(Some(secret)))
-            } else {
+        Some(secret) => match feed.take_line(source) {
+            Ok(true) => Ok(Some(Some(secret))),
+            Ok(false) => {
+                drop(secret);
                 Ok(None)
             }
-        }
+            Err(fault) => {
+                drop(secret);
+                Err(fault)
+            }
+        },
     }
 }

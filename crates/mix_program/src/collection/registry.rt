@@ -1,11 +1,11 @@
 //! What a collection opens with, and the program's scene.
-ghost use Rattle.std.specs.Prelude.{◌≡◌, ◌≢◌, ◌≤◌, ◌<◌, All, Err, IfOk, IfSome, IsTrue};
+ghost use Rattle.std.specs.Prelude.{◌≡◌, ◌≢◌, ◌≤◌, ◌<◌, [], All, Err, IfOk, IfSome, IsTrue};
 ghost use Rattle.mix_model.specs.Values.{is_canvas};
 ghost use Rattle.mix_outside.specs.Faults.{Rose};
 ghost use Rattle.mix_outside.specs.Lines.{Whole};
 ghost use Rattle.mix_engine.specs.Openings.{Fits};
 ghost use Rattle.mix_program.specs.Collections.{last_in, name_in};
-ghost use Rattle.mix_program.specs.Read.{Registers, Ends, Drains};
+ghost use Rattle.mix_program.specs.Read.{Pushes, Registers, Ends, Drains};
 ghost use Rattle.mix_program.specs.Within.{lines_left};
 
 use crate::collection::Fault;
@@ -13,7 +13,7 @@ use crate::collection::feed::Feed;
 use crate::collection::lines::name_in;
 use crate::collection::sources::line_in;
 use mix_base::{ListOf, Name};
-use mix_model::LineList;
+use mix_model::{Line, LineList};
 use mix_outside::Source;
 use std::alloc::Global;
 
@@ -22,6 +22,37 @@ use std::alloc::Global;
 pub struct Registry {
     pub lines: LineList,
     pub program: Name,
+}
+
+/// Pushes what the lines add, from the line that was read last up to the program's line, and gives
+/// the name in that.
+fn push_lines<C: Source>(
+    alloc: Global,
+    canvas: (u32, u32),
+    lines: &mut Vec<Line>,
+    feed: &mut Feed,
+    source: &mut C,
+) -> Result<Option<Name>, Fault>
+    requires canvas { IsTrue (is_canvas canvas) }
+    requires nothing { lines.old.items ≡ [] }
+    ensures pushed { C.Tells → Pushes canvas result lines.new.items
+        (Whole feed.old.line.items (lines_left feed.old (C.left source.old))) }
+    ensures fits { All Fits lines.new.items }
+    ensures drained { C.Tells → Drains result (C.left source.new) }
+    ensures later { C.faults source.old ≤ C.faults source.new }
+    ensures cause { result ≡ Err Fault.ReadFault →
+        Rose (C.faults source.old) (C.faults source.new) }
+    ensures steady { result ≢ Err Fault.ReadFault → C.faults source.new ≡ C.faults source.old }
+{
+    'lines: loop {
+        match line_in(alloc, canvas, feed.line.as_slice())? {
+            Some(line) => lines.push(line)?,
+            None => return read_program(alloc, feed, source),
+        }
+        if !feed.take_line(source)? {
+            return Ok(None);
+        }
+    }
 }
 
 /// Reads what the lines add from the line that was read last, up to the program's line.
@@ -42,21 +73,18 @@ pub fn read_registry<C: Source>(
     ensures steady { result ≢ Err Fault.ReadFault → C.faults source.new ≡ C.faults source.old }
 {
     let mut lines = Vec::new(alloc);
-    'lines: loop {
-        match line_in(alloc, canvas, feed.line.as_slice())? {
-            Some(line) => lines.push(line)?,
-            None => {
-                let Some(program) = read_program(alloc, feed, source)? else {
-                    return Ok(None);
-                };
-                return Ok(Some(Registry {
-                    lines: ListOf::from_vec(lines),
-                    program,
-                }));
-            }
+    match push_lines(alloc, canvas, &mut lines, feed, source) {
+        Ok(Some(program)) => Ok(Some(Registry {
+            lines: ListOf::from_vec(lines),
+            program,
+        })),
+        Ok(None) => {
+            drop(lines);
+            Ok(None)
         }
-        if !feed.take_line(source)? {
-            return Ok(None);
+        Err(fault) => {
+            drop(lines);
+            Err(fault)
         }
     }
 }
@@ -75,8 +103,18 @@ fn read_program<C: Source>(
         Rose (C.faults source.old) (C.faults source.new) }
     ensures steady { result ≢ Err Fault.ReadFault → C.faults source.new ≡ C.faults source.old }
 {
-    match name_in(alloc, b"program", feed.line.as_slice())? {
-        Some(name) if feed.at_end(source)? => Ok(Some(name)),
-        _ => Ok(None),
+    let Some(name) = name_in(alloc, b"program", feed.line.as_slice())? else {
+        return Ok(None);
+    };
+    match feed.at_end(source) {
+        Ok(true) => Ok(Some(name)),
+        Ok(false) => {
+            drop(name);
+            Ok(None)
+        }
+        Err(fault) => {
+            drop(name);
+            Err(fault)
+        }
     }
 }

@@ -1,10 +1,11 @@
 //! What the lines of scenes, inputs and items say.
-ghost use Rattle.std.specs.Prelude.{◌≡◌, IfOk, IfSome, IsTrue, option_and_then};
+ghost use Rattle.std.specs.Prelude.{◌≡◌, IfOk, IfSome, IsTrue, option_and_then, option_map};
+ghost use Rattle.mix_base.specs.Json.{as_obj};
 ghost use Rattle.mix_model.specs.Rows.{is_input};
 ghost use Rattle.mix_model.specs.Values.{is_canvas, are_settings};
 ghost use Rattle.mix_engine.specs.Openings.{Fits};
 ghost use Rattle.mix_program.specs.Collections.{three_items, kind_from, settings_from};
-ghost use Rattle.mix_program.specs.Collections.{input_from, item_from};
+ghost use Rattle.mix_program.specs.Collections.{input_from, item_from, where_it, is_bare};
 ghost use Rattle.mix_program.specs.Collections.{scene_in, input_in, item_in, line_in};
 
 use crate::collection::fields::{list_behind, object_in, text_in};
@@ -49,21 +50,26 @@ fn settings_from(
 {
     match check_settings(alloc, kind, &Settings::None, given, canvas) {
         Ok(settings) => Ok(Some(settings)),
-        Err(SettingFault::Bad(_)) => Ok(None),
+        Err(SettingFault::Bad(bad)) => {
+            drop(bad);
+            Ok(None)
+        }
         Err(SettingFault::NoMemory) => Err(NoMemory),
     }
 }
 
-#[tactic(auto, unfolding(mix_model::specs::Collections::line_fits))]
-fn input_from(alloc: Global, canvas: (u32, u32), items: &[Json]) -> Result<Option<Line>, NoMemory>
+/// An input: its kind, its name, and its settings.
+fn input_of(
+    alloc: Global,
+    canvas: (u32, u32),
+    id: &Json,
+    name: &Json,
+    given: &Json,
+) -> Result<Option<Line>, NoMemory>
     requires canvas { IsTrue (is_canvas canvas) }
-    ensures value { IfOk result
-        (λ input. input ≡ option_and_then (input_from canvas) (three_items items.now)) }
+    ensures value { IfOk result (λ input. input ≡ input_from canvas (id.now, name.now, given.now)) }
     ensures fits { IfOk result (λ input. IfSome input Fits) }
 {
-    let [id, name, given] = items else {
-        return Ok(None);
-    };
     let Some(kind) = kind_from(id) else {
         return Ok(None);
     };
@@ -71,15 +77,35 @@ fn input_from(alloc: Global, canvas: (u32, u32), items: &[Json]) -> Result<Optio
         return Ok(None);
     };
     let Some(given) = object_in(given) else {
+        drop(name);
         return Ok(None);
     };
-    match settings_from(alloc, canvas, kind, given)? {
-        Some(settings) => Ok(Some(Line::Input {
+    match settings_from(alloc, canvas, kind, given) {
+        Ok(Some(settings)) => Ok(Some(Line::Input {
             kind,
             name,
             settings,
         })),
-        None => Ok(None),
+        Ok(None) => {
+            drop(name);
+            Ok(None)
+        }
+        Err(_) => {
+            drop(name);
+            Err(NoMemory)
+        }
+    }
+}
+
+fn input_from(alloc: Global, canvas: (u32, u32), items: &[Json]) -> Result<Option<Line>, NoMemory>
+    requires canvas { IsTrue (is_canvas canvas) }
+    ensures value { IfOk result
+        (λ input. input ≡ option_and_then (input_from canvas) (three_items items.now)) }
+    ensures fits { IfOk result (λ input. IfSome input Fits) }
+{
+    match items {
+        [id, name, given] => input_of(alloc, canvas, id, name, given),
+        _ => Ok(None),
     }
 }
 
@@ -90,24 +116,43 @@ fn input_in(alloc: Global, canvas: (u32, u32), line: &[u8]) -> Result<Option<Lin
     ensures fits { IfOk result (λ input. IfSome input Fits) }
 {
     match list_behind(alloc, b"input", line)? {
-        Some(items) => input_from(alloc, canvas, items.as_slice()),
+        Some(items) => {
+            let input = input_from(alloc, canvas, items.as_slice());
+            drop(items);
+            input
+        }
         None => Ok(None),
     }
 }
 
-#[tactic(auto, unfolding(mix_model::specs::Collections::line_fits))]
-fn item_from(items: &[Json]) -> Option<Line>
-    ensures value { result ≡ option_and_then item_from (three_items items.now) }
+/// An object without a key.
+fn bare_in(value: &Json) -> Option<&JsonObj>
+    ensures value { option_map (λ object. object.now) result
+        ≡ option_and_then (where_it is_bare) (as_obj value.now) }
+{
+    let object = object_in(value)?;
+    if object.len() == 0 {
+        Some(object)
+    } else {
+        None
+    }
+}
+
+/// An item: whose it is, what it shows, and no options.
+fn item_of(parent: &Json, child: &Json, options: &Json) -> Option<Line>
+    ensures value { result ≡ item_from (parent.now, child.now, options.now) }
     ensures fits { IfSome result Fits }
 {
-    let [parent, child, options] = items else {
+    let parent = name_from(parent)?;
+    let Some(child) = name_from(child) else {
+        drop(parent);
         return None;
     };
-    let parent = name_from(parent)?;
-    let child = name_from(child)?;
-    if object_in(options)?.len() != 0 {
+    let Some(_) = bare_in(options) else {
+        drop(parent);
+        drop(child);
         return None;
-    }
+    };
     Some(Line::Item {
         parent,
         child,
@@ -118,13 +163,27 @@ fn item_from(items: &[Json]) -> Option<Line>
     })
 }
 
+fn item_from(items: &[Json]) -> Option<Line>
+    ensures value { result ≡ option_and_then item_from (three_items items.now) }
+    ensures fits { IfSome result Fits }
+{
+    match items {
+        [parent, child, options] => item_of(parent, child, options),
+        _ => None,
+    }
+}
+
 #[tactic(auto, unfolding(crate::specs::Collections::item_in))]
 fn item_in(alloc: Global, line: &[u8]) -> Result<Option<Line>, NoMemory>
     ensures value { IfOk result (λ item. item ≡ item_in line.now) }
     ensures fits { IfOk result (λ item. IfSome item Fits) }
 {
     match list_behind(alloc, b"item", line)? {
-        Some(items) => Ok(item_from(items.as_slice())),
+        Some(items) => {
+            let item = item_from(items.as_slice());
+            drop(items);
+            Ok(item)
+        }
         None => Ok(None),
     }
 }

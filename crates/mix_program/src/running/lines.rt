@@ -5,7 +5,7 @@ ghost use Rattle.mix_model.specs.Plans.{is_shot, painted};
 ghost use Rattle.mix_events.specs.Sayable.{IsSayable};
 ghost use Rattle.mix_engine.specs.Answers.{IsSayableReply};
 ghost use Rattle.mix_program.specs.Ends.{Puts};
-ghost use Rattle.mix_program.specs.Output.{conn_line, text_line, told_lines, gone_line};
+ghost use Rattle.mix_program.specs.Output.{conn_line, text_line, told_lines, said_lines, gone_line};
 ghost use Rattle.mix_program.specs.Output.{reply_lines, IsPaintable};
 ghost use Rattle.mix_program.specs.PictureText.{frame_line};
 
@@ -130,7 +130,6 @@ fn put_left<K: Sink>(alloc: Global, out: &mut K, conn: ConnId) -> Wrote
 }
 
 /// The lines of what a connection is told, and then that of its close.
-#[tactic(auto, using(crate::proofs::Pieces::first_part, crate::proofs::Pieces::both_parts))]
 fn put_closed<K: Sink>(alloc: Global, out: &mut K, conn: ConnId, told: &[Said], code: u16) -> Wrote
     requires { All IsSayable told.now }
     ensures bytes { K.Tells → Puts result
@@ -144,6 +143,27 @@ fn put_closed<K: Sink>(alloc: Global, out: &mut K, conn: ConnId, told: &[Said], 
         Wrote::All => put_close(alloc, out, conn, code),
         Wrote::WriteFault => Wrote::WriteFault,
         Wrote::NoMemory => Wrote::NoMemory,
+    }
+}
+
+/// The lines of what a connection is told, and that of its close, where it is closed.
+fn put_said<K: Sink>(
+    alloc: Global,
+    out: &mut K,
+    conn: ConnId,
+    told: &[Said],
+    close: Option<u16>,
+) -> Wrote
+    requires { All IsSayable told.now }
+    ensures bytes { K.Tells → Puts result (said_lines conn told.now close)
+        (K.held out.old) (K.held out.new) }
+    ensures later { K.faults out.old ≤ K.faults out.new }
+    ensures cause { result ≡ Wrote.WriteFault → Rose (K.faults out.old) (K.faults out.new) }
+    ensures steady { result ≢ Wrote.WriteFault → K.faults out.new ≡ K.faults out.old }
+{
+    match close {
+        Some(code) => put_closed(alloc, out, conn, told, code),
+        None => put_told(alloc, out, conn, told),
     }
 }
 
@@ -205,10 +225,7 @@ pub fn put_reply<K: Sink>(alloc: Global, out: &mut K, canvas: (u32, u32), reply:
             said,
             close,
             ..
-        } => match close {
-            Some(code) => put_closed(alloc, out, *conn, said.as_slice(), *code),
-            None => put_told(alloc, out, *conn, said.as_slice()),
-        },
+        } => put_said(alloc, out, *conn, said.as_slice(), *close),
         Reply::Frame { number, shot, .. } => put_frame(alloc, out, canvas, *number, shot),
         Reply::NoFrame => put(out, b"v full\n"),
         Reply::FrameGone { number } => put_frame_gone(alloc, out, *number),

@@ -5,10 +5,10 @@ ghost use Rattle.mix_outside.specs.Lines.{lines_of};
 ghost use Rattle.mix_outside.specs.Faults.{Rose};
 ghost use Rattle.mix_script.specs.Lines.{action_of};
 ghost use Rattle.mix_engine.specs.Engines.{are_limits, line_bytes, text_bytes, has_room};
-ghost use Rattle.mix_program.specs.Ends.{Ends, Turned, Follows, Finishing};
+ghost use Rattle.mix_program.specs.Ends.{Ends, Turned, Follows, Finishing, ended_by};
 ghost use Rattle.mix_program.specs.Run.{run, turn, next_line, room_for};
 
-use crate::running::last_line::{fill, refuse};
+use crate::running::last_line::{end_at, refuse};
 use crate::running::lines::put_reply;
 use crate::running::{Ended, Finished, Wrote};
 use mix_base::{Limits, PassNo};
@@ -17,6 +17,21 @@ use mix_model::Action;
 use mix_outside::{Met, ReadAhead, Sink, Source};
 use mix_script::{BadLine, lines_and_actions_stand_one_to_one, read_line};
 use std::alloc::Global;
+
+/// How a run goes on behind a piece.
+fn ended_by(wrote: Wrote) -> Option<Ended>
+    ensures value { result ≡ ended_by wrote }
+    ensures finished { IfSome result (Finishing Finished.NotBuilt) }
+    ensures read { result ≢ Some Ended.ReadFault }
+    ensures write { result ≡ Some Ended.WriteFault → wrote ≡ Wrote.WriteFault }
+    ensures steady { result ≢ Some Ended.WriteFault → wrote ≢ Wrote.WriteFault }
+{
+    match wrote {
+        Wrote::All => None,
+        Wrote::WriteFault => Some(Ended::WriteFault),
+        Wrote::NoMemory => Some(Ended::NoMemory),
+    }
+}
 
 /// Does one action.
 fn act<K: Sink>(
@@ -46,11 +61,7 @@ fn act<K: Sink>(
         Ok(Some(answer)) => {
             let wrote = put_reply(alloc, out, canvas, &answer.reply);
             drop(answer);
-            match wrote {
-                Wrote::All => None,
-                Wrote::WriteFault => Some(Ended::WriteFault),
-                Wrote::NoMemory => Some(Ended::NoMemory),
-            }
+            ended_by(wrote)
         }
         Ok(None) => Some(refuse(alloc, out, number)),
         Err(ActFault::NoMemory) => Some(Ended::NoMemory),
@@ -131,15 +142,7 @@ fn each_line<S: Source, K: Sink>(
                 number += 1;
                 room -= line.len() as u64 + 1;
             }
-            Met::Last => {
-                if line.is_empty() {
-                    return Ended::Whole(Finished::Done);
-                }
-                return refuse(alloc, out, number);
-            }
-            Met::Past => return fill(out),
-            Met::Failed => return Ended::ReadFault,
-            Met::NoMemory => return Ended::NoMemory,
+            met => return end_at(alloc, met, line.as_slice(), number, out),
         }
     }
 }

@@ -26,6 +26,14 @@ pub struct Given<'a> {
     pub room: usize,
 }
 
+/// What a run reads.
+#[derive(Drop)]
+struct Input {
+    words: Vec<Text>,
+    collection: MemSource,
+    script: MemSource,
+}
+
 /// What a run leaves: its output, its record, and its status.
 #[derive(Drop)]
 pub struct Left {
@@ -96,29 +104,61 @@ pub fn repeated(
     Ok(all)
 }
 
-/// Does a run. Its record has no room, so that one that writes to it shows.
-pub fn run(alloc: Global, given: Given) -> Result<Left, AllocError> {
+/// What a run reads, from what it is made from.
+fn input_of(alloc: Global, given: Given) -> Result<Input, AllocError> {
     let words = texts(alloc, given.words)?;
-    let mut collection = source(alloc, given.collection, given.piece, given.unread)?;
-    let mut script = source(alloc, given.script, given.piece, given.unheard)?;
-    let mut output = sink(alloc, given.room, given.unwritten)?;
-    let mut record = sink(alloc, 0, &[])?;
-    let status = run_offline(
-        alloc,
-        words.as_slice(),
-        &mut collection,
-        &mut script,
-        &mut output,
-        &mut record,
-    );
-    drop(script);
-    drop(collection);
-    drop(words);
+    let Ok(collection) = source(alloc, given.collection, given.piece, given.unread) else {
+        drop(words);
+        return Err(AllocError);
+    };
+    let Ok(script) = source(alloc, given.script, given.piece, given.unheard) else {
+        drop(collection);
+        drop(words);
+        return Err(AllocError);
+    };
+    Ok(Input {
+        words,
+        collection,
+        script,
+    })
+}
+
+/// Before a run: nothing is written. The record has no room, so that one that writes to it shows.
+fn nothing_left(alloc: Global, given: Given) -> Result<Left, AllocError> {
+    let output = sink(alloc, given.room, given.unwritten)?;
+    let Ok(record) = sink(alloc, 0, &[]) else {
+        drop(output);
+        return Err(AllocError);
+    };
     Ok(Left {
         output,
         record,
-        status: status.0,
+        status: 0,
     })
+}
+
+fn replay(alloc: Global, input: &mut Input, left: &mut Left) {
+    let status = run_offline(
+        alloc,
+        input.words.as_slice(),
+        &mut input.collection,
+        &mut input.script,
+        &mut left.output,
+        &mut left.record,
+    );
+    left.status = status.0;
+}
+
+/// Does a run.
+pub fn run(alloc: Global, given: Given) -> Result<Left, AllocError> {
+    let mut input = input_of(alloc, given)?;
+    let Ok(mut left) = nothing_left(alloc, given) else {
+        drop(input);
+        return Err(AllocError);
+    };
+    replay(alloc, &mut input, &mut left);
+    drop(input);
+    Ok(left)
 }
 
 /// A test fails with the name of its case and the status of its run where this didn't leave what it

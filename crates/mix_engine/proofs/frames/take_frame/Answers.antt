@@ -1,7 +1,7 @@
 use Rattle.std.proofs.Common.{◌∙◌, ap}
 use Rattle.mix_model.specs.Marks.{GraphModel}
 use Rattle.mix_engine.proofs.FrameLemmas.{fresh_begun, clock_rises, activity_stands, clock_settled}
-use Rattle.mix_engine.proofs.FrameLemmas.{begun_present}
+use Rattle.mix_shape.proofs.ActionLemmas.{begun_present}
 use Rattle.mix_engine.proofs.frames.take_frame.Goals as goal
 
 -- its number is new

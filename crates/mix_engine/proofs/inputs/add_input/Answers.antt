@@ -6,7 +6,7 @@ use Rattle.mix_model.specs.Items.{asked}
 use Rattle.mix_model.specs.Lookups.{row_of}
 use Rattle.mix_model.specs.Settle.{settle}
 use Rattle.mix_model.specs.State.{GraphState}
-use Rattle.mix_engine.proofs.EditLemmas.{begun_same, left_settled}
+use Rattle.mix_shape.proofs.ActionLemmas.{begun_same, left_settled}
 use Rattle.mix_engine.proofs.InputLemmas.{item_drawn, input_grows, input_items, input_keeps}
 use Rattle.mix_engine.proofs.InputLemmas.{input_scenes}
 use Rattle.mix_engine.proofs.inputs.add_input.Goals as goal

@@ -1,18 +1,16 @@
 use Rattle.std.proofs.Common.{◌∙◌, sym}
 use Rattle.mix_engine.specs.InputRequests.{asked_for}
 use Rattle.mix_engine.specs.Stills.{studio_of}
-use Rattle.mix_engine.proofs.InputAsked.{name_found, name_refused, settings_looked}
+use Rattle.mix_engine.proofs.InputAsked.{name_refused, settings_looked}
 use Rattle.mix_engine.proofs.inputs.input_made.Goals as goal
 
 -- a name that is taken
-pub returns-then-is_some-clause-value : goal.returns-then-is_some-clause-value
-returns-then-is_some-clause-value c =
+pub returns-then-has_name-clause-value : goal.returns-then-has_name-clause-value
+returns-then-has_name-clause-value c =
     let g = c.args.graph.now.present in
     name_refused (studio_of c.args.still.now g) (asked_for c.args.asked.now) c.in-Ok.parent
     c.in-Ok.ensures.value c.in-Ok-kind_sought.kind c.in-Ok-kind_sought.ensures.value
-    (name_found g c.args.asked.now.name c.in_ok-from_str.field-0 c.find-2.result _
-    c.if-is_some.ensures c.find-2.ensures.reply
-    (c.in_ok-from_str.ensures.value ∙ c.as_str.ensures.value))
+    (sym c.if-has_name.true ∙ c.has_name.ensures.reply)
 
 -- settings that are refused
 pub returns-in-Err-2-clause-value : goal.returns-in-Err-2-clause-value
@@ -20,7 +18,5 @@ returns-in-Err-2-clause-value c =
     let g = c.args.graph.now.present in
     settings_looked (studio_of c.args.still.now g) (asked_for c.args.asked.now) c.in-Ok.parent
     c.in-Ok.ensures.value c.in-Ok-kind_sought.kind c.in-Ok-kind_sought.ensures.value
-    (name_found g c.args.asked.now.name c.in_ok-from_str.field-0 c.find-2.result _
-    c.if-is_some.ensures c.find-2.ensures.reply
-    (c.in_ok-from_str.ensures.value ∙ c.as_str.ensures.value))
+    (sym c.if-has_name.false ∙ c.has_name.ensures.reply)
     _ (sym c.in-Err-2.is ∙ c.in_ok-settings.ensures.value)

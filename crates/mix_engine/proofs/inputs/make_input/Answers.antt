@@ -5,7 +5,8 @@ use Rattle.mix_engine.proofs.EditLemmas.{shape_kept}
 use Rattle.mix_engine.proofs.InputEffects.{made_answer, made_studio, made_told}
 use Rattle.mix_engine.proofs.InputEffects.{refused_answer, refused_studio, refused_told}
 use Rattle.mix_engine.proofs.InputLemmas.{only_two}
-use Rattle.mix_engine.proofs.ProgramLemmas.{scene_short, scene_there}
+use Rattle.mix_engine.proofs.ProgramLemmas.{scene_short}
+use Rattle.mix_shape.proofs.SceneLemmas.{scene_there}
 use Rattle.mix_engine.proofs.inputs.make_input.Goals as goal
 
 -- its scene is there

@@ -5,8 +5,9 @@ use Rattle.mix_model.specs.Lookups.{named_by}
 use Rattle.mix_model.specs.Settle.{settle}
 use Rattle.mix_model.specs.State.{GraphState}
 use Rattle.mix_graph.specs.Refused.{is_missing, may_be_set}
-use Rattle.mix_engine.proofs.EditLemmas.{begun_same, left_settled}
-use Rattle.mix_engine.proofs.ProgramLemmas.{scene_may_be_set, scene_not_missing, program_left}
+use Rattle.mix_shape.proofs.ActionLemmas.{begun_same, left_settled}
+use Rattle.mix_shape.proofs.SceneLemmas.{scene_may_be_set, scene_not_missing}
+use Rattle.mix_engine.proofs.ProgramLemmas.{program_left}
 use Rattle.mix_engine.proofs.ProgramLemmas.{clock_stays, serials_stay, items_stay, scenes_stay}
 use Rattle.mix_engine.proofs.ProgramLemmas.{shape_stays}
 use Rattle.mix_engine.proofs.programs.set_program.Goals as goal

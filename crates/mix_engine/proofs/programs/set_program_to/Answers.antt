@@ -1,5 +1,6 @@
 use Rattle.std.proofs.Common.{◌<◌, ◌^◌, subst, sym}
-use Rattle.mix_engine.proofs.ProgramLemmas.{scene_short, scene_there, set_tells}
+use Rattle.mix_engine.proofs.ProgramLemmas.{scene_short, set_tells}
+use Rattle.mix_shape.proofs.SceneLemmas.{scene_there}
 use Rattle.mix_engine.proofs.programs.set_program_to.Goals as goal
 
 -- the scene that was found is in the registry

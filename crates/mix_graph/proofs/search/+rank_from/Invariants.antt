@@ -2,7 +2,7 @@
 use Rattle.std.proofs.Common.{◌≡◌, ◌-◌, ◌≤◌, drop, map, max, suc}
 use Rattle.mix_model.specs.Sets.{greatest}
 use Rattle.mix_model.specs.Ranks.{rank_by}
-use Rattle.mix_graph.specs.Searched.{inside_with}
+use Rattle.mix_shape.specs.NewItems.{inside_with}
 use Rattle.mix_graph.proofs.search.+rank_from.Given as goal
 
 abbrev pub decreases-rank_from : goal.decreases-rank_from

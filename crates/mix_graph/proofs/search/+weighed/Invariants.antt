@@ -1,7 +1,7 @@
 -- The rounds fall; and what is left has to hold the items that are left.
 use Rattle.std.proofs.Common.{◌≡◌, ◌-◌, ◌+◌, drop, map}
 use Rattle.mix_model.specs.Ranks.{weight_by, sum_of}
-use Rattle.mix_graph.specs.Searched.{inside_with}
+use Rattle.mix_shape.specs.NewItems.{inside_with}
 use Rattle.mix_graph.proofs.search.+weighed.Given as goal
 
 abbrev pub decreases-weighed : goal.decreases-weighed

@@ -1,11 +1,12 @@
--- a text with its escapes is in UTF-8
-use Rattle.std.proofs.Common.{◌≡◌, ap, sym, ◌∙◌, subst, ℕ, List}
-use Rattle.std.specs.Str.{IsUtf8}
-use Rattle.mix_script.specs.Escapes.{escaped}
-use Rattle.mix_script.proofs.EscapeLemmas.{IsUtf8-escaped}
+-- a text without a special byte is written as it is
+use Rattle.std.proofs.Common.{◌≡◌, sym, ◌∙◌, false, ap}
+use Rattle.std.specs.List.{list_any}
+use Rattle.mix_script.specs.Escapes.{escaped, is_special}
+use Rattle.mix_script.proofs.EscapeLemmas.{escaped-plain}
 use Rattle.mix_script.proofs.escaping.escape.Goals as goal
 
-pub unreachable-requires : goal.unreachable-requires
-unreachable-requires c =
-    let is : escaped c.args.text.now ≡ c.in_ok-bytes.bytes.items = ap escaped (sym c.as_bytes.ensures.value) ∙ sym c.in_ok-bytes.ensures in
-    cc (c.in-Err.ensures.succeeds (subst (λ (t : List ℕ). IsUtf8 t) is (IsUtf8-escaped c.args.text.now c.utf8.text)))
+pub returns-in_ok-from_str : goal.returns-in_ok-from_str
+returns-in_ok-from_str c =
+    let none : list_any is_special c.args.text.now ≡ false =
+    ap (list_any is_special) (sym c.as_bytes.ensures.value) ∙ sym c.has_special.ensures ∙ c.if-has_special.false in
+    record { value = c.in_ok-from_str.ensures.ok ∙ sym (escaped-plain c.args.text.now none) }

@@ -4,26 +4,27 @@ use Rattle.mix_model.specs.Marks.{edited}
 use Rattle.mix_graph.specs.Settling.{Tallied}
 use Rattle.mix_graph.proofs.ShownLemmas.{group_count}
 use Rattle.mix_model.specs.Edits.{group_created, item_added}
-use Rattle.mix_graph.proofs.CreatedShape.{group_created_shape}
+use Rattle.mix_shape.proofs.LivingLemmas.{group_lets_live}
+use Rattle.mix_shape.proofs.CreatedShape.{group_created_shape}
 use Rattle.mix_graph.proofs.CreateLemmas.{refused_same}
 use Rattle.mix_graph.proofs.ShownLemmas.{shown_group}
 use Rattle.mix_model.specs.declared.settings.Settings.TheVariants.{None as NoSettings}
 use Rattle.mix_base.specs.declared.numbers.ItemId.{ItemId}
 use Rattle.mix_base.specs.declared.numbers.Serial.{Serial}
 use Rattle.std.proofs.Common.{refl}
-use Rattle.mix_graph.specs.Refused.{RefusedBy}
+use Rattle.mix_shape.specs.Refused.{RefusedBy}
 use Rattle.mix_model.specs.Marks.{GraphModel}
 use Rattle.std.proofs.Common.{subst, Err}
 use Rattle.mix_graph.proofs.CreateLemmas.{refused_map}
 use Rattle.mix_model.specs.Causes.{shown_cause}
-use Rattle.mix_graph.specs.Created.{shown_added}
+use Rattle.mix_shape.specs.Created.{shown_added}
 use Rattle.mix_model.specs.declared.kind.Kind.TheVariants.{Group}
 use Rattle.std.proofs.Common.{◌∙◌}
 use Rattle.mix_graph.proofs.graph.Graph.create_group.Goals as goal
 
-pub settle-requires : goal.settle-requires
+pub settle_living-requires : goal.settle_living-requires
 unfolding group_created item_added
-settle-requires c =
+settle_living-requires c =
     let more : length c.create_group.new.self.rows ≡ length c.self.inside.sources.rows + 1 =
     rw c.in-Ok-create_group.ensures.ok (group_count c.args.name c.args.parent c.args.spec
     c.self.inside.sources) in
@@ -38,13 +39,15 @@ settle-requires c =
           (rw (← shown_group c.args.name c.args.parent c.args.spec c.self.inside.sources)
           (rw c.bytes.ensures.value at (c.in_default.ensures.refused NoSettings c.args.spec))));
       begun = rw (c.in-Ok.ensures.ok, c.in-Ok-create_group.ensures.ok) c.self.invariant.begun;
+      living = rw c.in-Ok-create_group.ensures.ok (group_lets_live c.args.name c.args.parent
+          c.args.spec c.self.inside.sources c.self.invariant.shape c.in_default.ensures.there);
     }
 
 pub returns-in-Ok-create_group-clause-ok : goal.returns-in-Ok-create_group-clause-ok
 unfolding edited
 returns-in-Ok-create_group-clause-ok c = rw (
-  c.settle.ensures.state,
-  c.settle.ensures.begun,
+  c.settle_living.ensures.state,
+  c.settle_living.ensures.begun,
   ap (λ (t : Tallied). t.begun) c.in-Ok.ensures.ok,
   ← c.self.view_is,
   c.in-Ok-create_group.ensures.ok,

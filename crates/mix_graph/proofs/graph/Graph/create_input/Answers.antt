@@ -3,20 +3,21 @@ use Rattle.std.proofs.Common.{◌≡◌, ◌+◌, ap, length, arith}
 use Rattle.mix_model.specs.Marks.{edited}
 use Rattle.mix_graph.specs.Settling.{Tallied}
 use Rattle.mix_graph.proofs.ShownLemmas.{input_count}
-use Rattle.mix_graph.proofs.CreatedShape.{input_made_shape, made_clock, wanted_place}
+use Rattle.mix_shape.proofs.LivingLemmas.{input_lets_live}
+use Rattle.mix_shape.proofs.CreatedShape.{input_made_shape, made_clock, wanted_place}
 use Rattle.mix_graph.proofs.CreateLemmas.{refused_same}
 use Rattle.mix_base.specs.declared.numbers.ItemId.{ItemId}
 use Rattle.mix_base.specs.declared.numbers.Serial.{Serial}
 use Rattle.std.proofs.Common.{refl, Option}
-use Rattle.mix_graph.specs.Refused.{RefusedBy}
+use Rattle.mix_shape.specs.Refused.{RefusedBy}
 use Rattle.mix_model.specs.Marks.{GraphModel}
 use Rattle.std.proofs.Common.{subst, Err}
 use Rattle.mix_graph.proofs.CreateLemmas.{refused_map}
-use Rattle.mix_graph.specs.Created.{input_cause, input_made}
+use Rattle.mix_shape.specs.Created.{input_cause, input_made}
 use Rattle.mix_graph.proofs.graph.Graph.create_input.Goals as goal
 
-pub settle-requires : goal.settle-requires
-settle-requires c =
+pub settle_living-requires : goal.settle_living-requires
+settle_living-requires c =
     let more : length c.create_input.new.self.rows ≡ length c.self.inside.sources.rows + 1 =
     rw c.in-Ok-create_input.ensures.ok (input_count c.args.name c.args.kind c.args.settings c.args.parent
     c.self.inside.sources) in
@@ -36,13 +37,15 @@ settle-requires c =
         made_clock c.args.name
             c.args.kind c.args.settings c.args.parent c.self.inside.sources,
       ) c.self.invariant.begun;
+      living = rw c.in-Ok-create_input.ensures.ok (input_lets_live c.args.name c.args.kind
+          c.args.settings c.args.parent c.self.inside.sources c.self.invariant.shape);
     }
 
 pub returns-in-Ok-create_input-clause-ok : goal.returns-in-Ok-create_input-clause-ok
 unfolding edited
 returns-in-Ok-create_input-clause-ok c = rw (
-  c.settle.ensures.state,
-  c.settle.ensures.begun,
+  c.settle_living.ensures.state,
+  c.settle_living.ensures.begun,
   ap (λ (t : Tallied). t.begun) c.in-Ok.ensures.ok,
   ← c.self.view_is,
   c.in-Ok-create_input.ensures.ok,

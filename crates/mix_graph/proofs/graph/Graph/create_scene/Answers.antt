@@ -4,21 +4,21 @@ use Rattle.mix_model.specs.Marks.{edited}
 use Rattle.mix_graph.specs.Settling.{Tallied}
 use Rattle.mix_graph.proofs.ShownLemmas.{scene_count}
 use Rattle.mix_model.specs.Edits.{scene_created}
-use Rattle.mix_graph.proofs.CreatedShape.{scene_created_shape}
+use Rattle.mix_shape.proofs.LivingLemmas.{scene_lets_live}
+use Rattle.mix_shape.proofs.CreatedShape.{scene_created_shape}
 use Rattle.mix_graph.proofs.CreateLemmas.{refused_same}
-use Rattle.mix_graph.proofs.BareLemmas.{bare_scene}
+use Rattle.mix_shape.proofs.BareLemmas.{bare_scene}
 use Rattle.mix_base.specs.declared.numbers.Serial.{Serial}
 use Rattle.std.proofs.Common.{sym, ◌∙◌}
-use Rattle.mix_graph.specs.Refused.{RefusedBy}
+use Rattle.mix_shape.specs.Refused.{RefusedBy, bare_cause}
 use Rattle.mix_model.specs.Marks.{GraphModel}
 use Rattle.std.proofs.Common.{subst, Err}
 use Rattle.mix_model.specs.Causes.{scene_cause}
-use Rattle.mix_graph.specs.Refused.{bare_cause}
 use Rattle.mix_graph.proofs.graph.Graph.create_scene.Goals as goal
 
-pub settle-requires : goal.settle-requires
+pub settle_living-requires : goal.settle_living-requires
 unfolding scene_created
-settle-requires c =
+settle_living-requires c =
     let more : length c.create_scene.new.self.rows ≡ length c.self.inside.sources.rows + 1 =
     rw c.in-Ok-create_scene.ensures.ok (scene_count c.args.name
     c.self.inside.sources) in
@@ -33,13 +33,15 @@ settle-requires c =
           (bare_scene c.args.name c.self.inside.sources c.self.invariant.shape
           ∙ rw c.bytes.ensures.value at c.in_default.ensures.refused));
       begun = rw (c.in-Ok.ensures.ok, c.in-Ok-create_scene.ensures.ok) c.self.invariant.begun;
+      living = rw c.in-Ok-create_scene.ensures.ok
+          (scene_lets_live c.args.name c.self.inside.sources c.self.invariant.shape);
     }
 
 pub returns-in-Ok-create_scene-clause-ok : goal.returns-in-Ok-create_scene-clause-ok
 unfolding edited
 returns-in-Ok-create_scene-clause-ok c = rw (
-  c.settle.ensures.state,
-  c.settle.ensures.begun,
+  c.settle_living.ensures.state,
+  c.settle_living.ensures.begun,
   ap (λ (t : Tallied). t.begun) c.in-Ok.ensures.ok,
   ← c.self.view_is,
   c.in-Ok-create_scene.ensures.ok,

@@ -2,8 +2,8 @@
 use Rattle.std.proofs.Common.{◌≡◌, ◌≤◌, ap, length, arith}
 use Rattle.mix_model.specs.Marks.{edited}
 use Rattle.mix_graph.specs.Settling.{Tallied}
-use Rattle.mix_graph.proofs.DestroyLemmas.{destroyed_less}
-use Rattle.mix_graph.proofs.DestroyedShape.{next_destroyed_shape, destroyed_clock}
+use Rattle.mix_shape.proofs.DestroyLemmas.{destroyed_less}
+use Rattle.mix_shape.proofs.DestroyedShape.{next_destroyed_shape, destroyed_clock}
 use Rattle.std.proofs.Common.{refl}
 use Rattle.mix_graph.proofs.graph.Graph.destroy_next.Goals as goal
 

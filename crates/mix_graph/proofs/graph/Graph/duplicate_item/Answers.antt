@@ -5,7 +5,7 @@ use Rattle.mix_model.specs.Items.{with_item}
 use Rattle.mix_model.specs.Edits.{item_added}
 use Rattle.mix_graph.proofs.ChangeLemmas.{changed_length}
 use Rattle.mix_graph.proofs.ItemLemmas.{copy_put}
-use Rattle.mix_graph.proofs.AddedShape.{duplicated_shape}
+use Rattle.mix_shape.proofs.AddedShape.{duplicated_shape}
 use Rattle.mix_graph.proofs.graph.Graph.duplicate_item.Goals as goal
 
 pub settle-requires : goal.settle-requires

@@ -1,7 +1,7 @@
 -- the edit leaves the rows, and the sources are settled
 use Rattle.mix_model.specs.Marks.{edited}
 use Rattle.mix_model.specs.Edits.{hold_made}
-use Rattle.mix_graph.proofs.HoldShape.{hold_made_shape}
+use Rattle.mix_shape.proofs.HoldShape.{hold_made_shape}
 use Rattle.mix_graph.proofs.graph.Graph.hold.Goals as goal
 
 pub settle-requires : goal.settle-requires

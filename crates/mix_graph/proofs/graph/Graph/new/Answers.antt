@@ -1,7 +1,7 @@
 -- there is no row
 use Rattle.std.proofs.Common.{refl}
 use Rattle.mix_model.specs.Edits.{empty_graph}
-use Rattle.mix_graph.proofs.WholeLemmas.{empty_shape, empty_begun}
+use Rattle.mix_shape.proofs.WholeLemmas.{empty_shape, empty_begun}
 use Rattle.mix_graph.proofs.graph.Graph.new.Goals as goal
 
 pub invariant_of-result : goal.invariant_of-result

@@ -1,7 +1,7 @@
 -- the edit leaves the rows, and the sources are settled
 use Rattle.mix_model.specs.Marks.{edited}
 use Rattle.mix_model.specs.Edits.{frame_released}
-use Rattle.mix_graph.proofs.HoldShape.{frame_released_shape}
+use Rattle.mix_shape.proofs.FrameShape.{frame_released_shape}
 use Rattle.mix_graph.proofs.graph.Graph.release_frame.Goals as goal
 
 pub settle-requires : goal.settle-requires

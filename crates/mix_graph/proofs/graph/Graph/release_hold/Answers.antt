@@ -1,7 +1,7 @@
 -- the edit leaves the rows, and the sources are settled
 use Rattle.mix_model.specs.Marks.{edited}
 use Rattle.mix_model.specs.Edits.{hold_released}
-use Rattle.mix_graph.proofs.HoldShape.{hold_released_shape}
+use Rattle.mix_shape.proofs.HoldShape.{hold_released_shape}
 use Rattle.mix_graph.proofs.graph.Graph.release_hold.Goals as goal
 
 pub settle-requires : goal.settle-requires

@@ -4,7 +4,7 @@ use Rattle.mix_model.specs.Marks.{edited}
 use Rattle.std.proofs.lemmas.List.{length-map}
 use Rattle.mix_model.specs.Items.{without_child}
 use Rattle.mix_model.specs.Edits.{source_removed}
-use Rattle.mix_graph.proofs.RemovedShape.{source_removed_shape}
+use Rattle.mix_shape.proofs.RemovedShape.{source_removed_shape}
 use Rattle.mix_graph.proofs.graph.Graph.remove_source.Goals as goal
 
 pub settle-requires : goal.settle-requires

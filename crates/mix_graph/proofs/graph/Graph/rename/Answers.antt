@@ -2,7 +2,7 @@
 use Rattle.std.proofs.Common.{◌≡◌, false, sym, ◌∙◌}
 use Rattle.mix_model.specs.Holders.{has_name}
 use Rattle.mix_model.specs.Edits.{renamed}
-use Rattle.mix_graph.proofs.SetShape.{renamed_shape}
+use Rattle.mix_shape.proofs.SetShape.{renamed_shape}
 use Rattle.mix_graph.proofs.graph.Graph.rename.Goals as goal
 
 pub edit_row-requires : goal.edit_row-requires

@@ -1,8 +1,8 @@
 -- the edit leaves the rows, and the sources are settled
 use Rattle.mix_model.specs.Marks.{edited}
 use Rattle.mix_model.specs.Edits.{channel_set}
-use Rattle.mix_graph.proofs.ChannelShape.{channel_set_shape, neither_passes}
-use Rattle.mix_graph.specs.Refused.{is_missing}
+use Rattle.mix_shape.proofs.ChannelShape.{channel_set_shape, neither_passes}
+use Rattle.mix_shape.specs.Refused.{is_missing}
 use Rattle.std.proofs.Common.{sym, ◌∙◌}
 use Rattle.mix_graph.proofs.graph.Graph.set_channel.Goals as goal
 

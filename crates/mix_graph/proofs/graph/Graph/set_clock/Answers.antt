@@ -1,8 +1,8 @@
 -- the edit leaves the rows, and the sources are settled
 use Rattle.mix_model.specs.Marks.{edited}
 use Rattle.mix_model.specs.Edits.{clock_set}
-use Rattle.mix_graph.proofs.WholeLemmas.{begun_later}
-use Rattle.mix_graph.proofs.HoldShape.{clock_set_shape}
+use Rattle.mix_shape.proofs.WholeLemmas.{begun_later}
+use Rattle.mix_shape.proofs.HoldShape.{clock_set_shape}
 use Rattle.mix_graph.proofs.graph.Graph.set_clock.Goals as goal
 
 pub settle-requires : goal.settle-requires

@@ -1,6 +1,6 @@
 -- items in another order keep the shape
 use Rattle.mix_model.specs.Edits.{item_moved}
-use Rattle.mix_graph.proofs.ThinnerShape.{moved_shape}
+use Rattle.mix_shape.proofs.ThinnerShape.{moved_shape}
 use Rattle.mix_graph.proofs.graph.Graph.set_index.Goals as goal
 
 pub edit_row-requires : goal.edit_row-requires

@@ -1,7 +1,7 @@
 -- valid settings of its kind keep the shape
 use Rattle.std.proofs.Common.{sym, ◌∙◌}
 use Rattle.mix_model.specs.Edits.{input_set}
-use Rattle.mix_graph.proofs.SetShape.{set_shape, not_missing}
+use Rattle.mix_shape.proofs.SetShape.{set_shape, not_missing}
 use Rattle.mix_graph.proofs.graph.Graph.set_input.Goals as goal
 
 pub edit_row-requires : goal.edit_row-requires

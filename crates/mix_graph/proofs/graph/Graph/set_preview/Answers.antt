@@ -1,7 +1,7 @@
 -- the edit leaves the rows, and the sources are settled
 use Rattle.mix_model.specs.Marks.{edited}
 use Rattle.mix_model.specs.Edits.{preview_set}
-use Rattle.mix_graph.proofs.HoldShape.{preview_set_shape}
+use Rattle.mix_shape.proofs.HoldShape.{preview_set_shape}
 use Rattle.std.proofs.Common.{sym, ◌∙◌}
 use Rattle.mix_graph.proofs.graph.Graph.set_preview.Goals as goal
 

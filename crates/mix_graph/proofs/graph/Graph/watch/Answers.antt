@@ -1,7 +1,7 @@
 -- the edit leaves the rows, and the sources are settled
 use Rattle.mix_model.specs.Marks.{edited}
 use Rattle.mix_model.specs.Edits.{watch_made}
-use Rattle.mix_graph.proofs.HoldShape.{watch_made_shape}
+use Rattle.mix_shape.proofs.HoldShape.{watch_made_shape}
 use Rattle.mix_graph.proofs.graph.Graph.watch.Goals as goal
 
 pub settle-requires : goal.settle-requires

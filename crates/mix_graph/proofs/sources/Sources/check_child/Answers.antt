@@ -3,7 +3,7 @@ use Rattle.std.proofs.Common.{◌≡◌, ◌∙◌, sym, ap, false, None, length
 use Rattle.mix_model.specs.State.{GraphState}
 use Rattle.mix_model.specs.Walks.{is_chained}
 use Rattle.mix_graph.proofs.ItemLemmas.{late_chained}
-use Rattle.mix_graph.proofs.WithLemmas.{added_item, late_few}
+use Rattle.mix_shape.proofs.WithLemmas.{added_item, late_few}
 use Rattle.mix_graph.proofs.CheckLemmas.{item_refuses, item_allows}
 use Rattle.mix_graph.proofs.sources.Sources.check_child.Goals as goal
 

@@ -1,5 +1,5 @@
 -- the causes of the input, hidden or shown
-use Rattle.mix_graph.proofs.BareLemmas.{bare_input}
+use Rattle.mix_shape.proofs.BareLemmas.{bare_input}
 use Rattle.mix_graph.proofs.ShownLemmas.{shown_input}
 use Rattle.mix_graph.proofs.sources.Sources.check_input.Goals as goal
 

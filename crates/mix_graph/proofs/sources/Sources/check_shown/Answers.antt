@@ -2,9 +2,9 @@
 use Rattle.std.proofs.Common.{◌≡◌, ◌∙◌, sym, ap, None, length}
 use Rattle.mix_model.specs.Causes.{shown_early}
 use Rattle.mix_model.specs.State.{GraphState}
-use Rattle.mix_graph.specs.Created.{shown_added}
+use Rattle.mix_shape.specs.Created.{shown_added}
 use Rattle.mix_graph.proofs.ShownLemmas.{shown_free, shown_there}
-use Rattle.mix_graph.proofs.WithLemmas.{late_few, late_shown}
+use Rattle.mix_shape.proofs.WithLemmas.{late_few, late_shown}
 use Rattle.mix_graph.proofs.CheckLemmas.{early_fault, shown_early_cause, late_refuses}
 use Rattle.mix_graph.proofs.sources.Sources.check_shown.Goals as goal
 

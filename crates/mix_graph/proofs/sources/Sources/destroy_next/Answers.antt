@@ -1,7 +1,8 @@
 -- nothing dies, or the first goes with its row
 use Rattle.std.proofs.Common.{◌≡◌, ◌∙◌, sym, Some, None}
 use Rattle.std.specs.Prelude.{slice_get}
-use Rattle.mix_graph.proofs.DestroyLemmas.{none_destroyed, first_destroyed, order_destroyed}
+use Rattle.mix_shape.proofs.DestroyLemmas.{none_destroyed, first_destroyed}
+use Rattle.mix_graph.proofs.DestroyLemmas.{order_destroyed}
 use Rattle.mix_graph.proofs.sources.Sources.destroy_next.Goals as goal
 
 pub returns-in_default-clause-state : goal.returns-in_default-clause-state

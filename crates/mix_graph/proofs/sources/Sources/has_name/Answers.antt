@@ -1,6 +1,7 @@
 -- the look-up finds no row that isn't named
 use Rattle.std.proofs.Common.{sym, ◌∙◌, ap, is_some}
-use Rattle.mix_graph.proofs.CreateLemmas.{name_found, copied_some}
+use Rattle.mix_shape.proofs.FreshLemmas.{name_found}
+use Rattle.mix_graph.proofs.CreateLemmas.{copied_some}
 use Rattle.mix_graph.proofs.sources.Sources.has_name.Goals as goal
 
 pub returns : goal.returns

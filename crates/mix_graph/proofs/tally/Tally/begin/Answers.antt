@@ -1,6 +1,8 @@
--- the marks are those of what stands
-use Rattle.std.proofs.Common.{arith}
+-- the marks are those of what stands, and nothing has changed against them
+use Rattle.std.proofs.Common.{arith, ap, sym, ◌∙◌}
 use Rattle.std.proofs.lemmas.Grind.{common_steps}
+use Rattle.mix_model.specs.Marks.{changes_by}
+use Rattle.mix_shape.proofs.MarkedLemmas.{nothing_changed}
 use Rattle.mix_graph.proofs.KeptLemmas.{marked_all, all_written}
 use Rattle.mix_graph.proofs.tally.Tally.begin.Goals as goal
 
@@ -20,3 +22,10 @@ returns-clause-begun c =
       c.flag_active.ensures,
       c.flag_showing.ensures,
     ) (marked_all c.args.sources.now)
+
+pub returns-clause-told : goal.returns-clause-told
+returns-clause-told c = record {
+  count = grind (arith, common_steps);
+  changes = c.clear.ensures.items ∙ sym (ap (λ marks. changes_by marks c.args.sources.now
+      c.args.sources.now.rows) (returns-clause-begun c) ∙ nothing_changed c.args.sources.now);
+}

@@ -1,0 +1,144 @@
+-- Sums over lists, and what they tell: that all pass a test, that no number is twice.
+use Rattle.std.proofs.Common.{◌≡◌, ℕ, suc, ◌+◌, ◌≤◌, ◌==◌, Bool, true, false, not, ◌||◌}
+use Rattle.std.proofs.Common.{List, [], ◌∷◌, ◌++◌, map, length, refl, ap, sym, ◌∙◌, arith}
+use Rattle.std.proofs.Common.{eqb-true, eq-eqb, nat_le, le-leb, leb-true, max}
+use Rattle.std.specs.List.{list_all, list_any, sum_by}
+use Rattle.std.proofs.lemmas.List.Sums.{sum_by-cons}
+use Rattle.std.proofs.lemmas.List.Folds.{fold-map}
+use Rattle.mix_model.specs.Sets.{has, is_distinct, greatest}
+use Rattle.mix_model.specs.Ranks.{sum_of}
+use Rattle.mix_model.proofs.SetLemmas.{and_both, and_first, and_second}
+use Rattle.std.proofs.lemmas.Bool.{not-true}
+
+-- 1 where a test is passed
+abbrev pub one_if : Bool → ℕ
+one_if true = 1
+one_if false = 0
+
+none_if : (b : Bool) → b ≡ true → one_if (not b) ≡ 0
+none_if true h = refl
+none_if false h = cc
+
+if_none : (b : Bool) → one_if (not b) ≡ 0 → b ≡ true
+if_none true h = refl
+if_none false h = absurd (omega (arith, h))
+
+-- all pass a test exactly where the sum of those that fail is 0
+pub all_sum : {X : Type 0} (p : X → Bool) (xs : List X) → list_all p xs ≡ true →
+    sum_by (λ x. one_if (not (p x))) xs ≡ 0
+all_sum p [] all = refl
+all_sum {X} p (x ∷ xs) all =
+    let first : one_if (not (p x)) ≡ 0 = none_if (p x) (and_first _ _ all) in
+    let whole : sum_by (λ (y : X). one_if (not (p y))) (x ∷ xs)
+    ≡ one_if (not (p x)) + sum_by (λ (y : X). one_if (not (p y))) xs =
+    sum_by-cons (λ (y : X). one_if (not (p y))) x xs in
+    omega (arith, first, whole, all_sum p xs (and_second _ _ all))
+
+pub sum_all : {X : Type 0} (p : X → Bool) (xs : List X) → sum_by (λ x. one_if (not (p x))) xs ≡ 0 →
+    list_all p xs ≡ true
+sum_all p [] none = refl
+sum_all {X} p (x ∷ xs) none =
+    let whole : sum_by (λ (y : X). one_if (not (p y))) (x ∷ xs)
+    ≡ one_if (not (p x)) + sum_by (λ (y : X). one_if (not (p y))) xs =
+    sum_by-cons (λ (y : X). one_if (not (p y))) x xs in
+    and_both _ _ (if_none (p x) (omega (arith, whole, none)))
+    (sum_all p xs (omega (arith, whole, none)))
+
+-- a sum over changed elements
+pub sum_map : {X Y : Type 0} (f : Y → ℕ) (h : X → Y) (xs : List X) →
+    sum_by f (map h xs) ≡ sum_by (λ x. f (h x)) xs
+sum_map f h xs = fold-map (λ a y. a + f y) h 0 xs
+
+-- what is no greater for each is no greater for all together
+pub sum_less : {X : Type 0} (f k : X → ℕ) → ((x : X) → f x ≤ k x) → (xs : List X) →
+    sum_by f xs ≤ sum_by k xs
+sum_less f k less [] = omega arith
+sum_less f k less (x ∷ xs) =
+    omega (
+      arith,
+      sum_by-cons f x xs,
+      sum_by-cons k x xs,
+      less x,
+      sum_less f k less xs,
+    )
+
+pub length_sum : {X : Type 0} (xs : List X) → sum_by (λ x. 1) xs ≡ length xs
+length_sum [] = refl
+length_sum {X} (x ∷ xs) =
+    let whole : sum_by (λ (y : X). 1) (x ∷ xs) ≡ 1 + sum_by (λ (y : X). 1) xs =
+    sum_by-cons (λ (y : X). 1) x xs in
+    omega (arith, whole, length_sum xs)
+
+pub sum_of_is : {X : Type 0} (f : ℕ → ℕ) (c : X → ℕ) (xs : List X) →
+    sum_of (map f (map c xs)) ≡ sum_by (λ x. f (c x)) xs
+sum_of_is f c [] = refl
+sum_of_is {X} f c (x ∷ xs) =
+    let whole : sum_by (λ (y : X). f (c y)) (x ∷ xs) ≡ f (c x) + sum_by (λ (y : X). f (c y)) xs =
+    sum_by-cons (λ (y : X). f (c y)) x xs in
+    omega (arith, whole, sum_of_is f c xs)
+
+-- the greatest is at most a number where each is
+pub greatest_all : {X : Type 0} (k : X → ℕ) (m : ℕ) (xs : List X) → greatest (map k xs) ≤ m →
+    list_all (λ x. nat_le (k x) m) xs ≡ true
+greatest_all k m [] most = refl
+greatest_all k m (x ∷ xs) most = and_both _ _ (le-leb (k x) m (omega (arith, most)))
+    (greatest_all k m xs (omega (arith, most)))
+
+pub all_greatest : {X : Type 0} (f k : X → ℕ) (m : ℕ) → ((x : X) → f x ≤ k x) → (xs : List X) →
+    list_all (λ x. nat_le (k x) m) xs ≡ true → greatest (map f xs) ≤ m
+all_greatest f k m less [] all = omega arith
+all_greatest f k m less (x ∷ xs) all =
+    let here : k x ≤ m = leb-true (k x) m (and_first _ _ all) in
+    let rest : greatest (map f xs) ≤ m = all_greatest f k m less xs (and_second _ _ all) in
+    omega (arith, here, rest, less x)
+
+-- how often a number is in a list
+abbrev pub times : ℕ → List ℕ → ℕ
+times x xs = sum_by (λ y. one_if (y == x)) xs
+
+pub times_cons : (x y : ℕ) (xs : List ℕ) → times x (y ∷ xs) ≡ one_if (y == x) + times x xs
+times_cons x y xs = sum_by-cons (λ z. one_if (z == x)) y xs
+
+none_case : (b : Bool) (rest : Bool) → (b || rest) ≡ false → (one_if b ≡ 0) × (rest ≡ false)
+none_case true rest h = cc
+none_case false rest h = (refl, h)
+
+pub absent_times : (x : ℕ) (xs : List ℕ) → has x xs ≡ false → times x xs ≡ 0
+absent_times x [] none = refl
+absent_times x (y ∷ xs) none =
+    let parts = none_case (y == x) (has x xs) none in
+    omega (arith, times_cons x y xs, parts.0, absent_times x xs parts.1)
+
+some_case : (b : Bool) (n : ℕ) (rest : Bool) → one_if b + n ≡ 0 → rest ≡ false →
+    (b || rest) ≡ false
+some_case true n rest h none = absurd (omega (arith, h))
+some_case false n rest h none = none
+
+pub times_absent : (x : ℕ) (xs : List ℕ) → times x xs ≡ 0 → has x xs ≡ false
+times_absent x [] none = refl
+times_absent x (y ∷ xs) none =
+    let whole : one_if (y == x) + times x xs ≡ 0 = sym (times_cons x y xs) ∙ none in
+    some_case (y == x) (times x xs) (has x xs) whole
+    (times_absent x xs (omega (arith, whole)))
+
+at_most_one : (b : Bool) (n : ℕ) → (b ≡ true → n ≡ 0) → n ≤ 1 → one_if b + n ≤ 1
+at_most_one true n none few = omega (arith, none refl)
+at_most_one false n none few = omega (arith, few)
+
+-- no number is twice exactly where each is at most once
+pub distinct_times : (xs : List ℕ) → is_distinct xs ≡ true → (x : ℕ) → times x xs ≤ 1
+distinct_times [] d x = omega arith
+distinct_times (y ∷ xs) d x =
+    let few : one_if (y == x) + times x xs ≤ 1 =
+    at_most_one (y == x) (times x xs)
+    (λ same. absent_times x xs (ap (λ z. has z xs) (sym (eqb-true y x same))
+    ∙ not-true _ (and_first _ _ d))) (distinct_times xs (and_second _ _ d) x) in
+    omega (arith, times_cons x y xs, few)
+
+pub times_distinct : (xs : List ℕ) → ((x : ℕ) → times x xs ≤ 1) → is_distinct xs ≡ true
+times_distinct [] each = refl
+times_distinct (y ∷ xs) each =
+    let own : one_if (y == y) ≡ 1 = ap (λ b. one_if b) (eq-eqb y y refl) in
+    let gone : times y xs ≡ 0 = omega (arith, each y, times_cons y y xs, own) in
+    and_both _ _ (ap not (times_absent y xs gone))
+    (times_distinct xs (λ x. omega (arith, each x, times_cons x y xs)))

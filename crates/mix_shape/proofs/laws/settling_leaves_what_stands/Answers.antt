@@ -1,0 +1,6 @@
+-- no number is written, and nothing begins to die
+use Rattle.mix_shape.proofs.UnchangedLemmas.{settles_still}
+use Rattle.mix_shape.proofs.laws.settling_leaves_what_stands.Goals as goal
+
+pub returns : goal.returns
+returns c = record { unchanged = settles_still }

@@ -1,0 +1,6 @@
+pub mod Studios
+pub mod Programs
+pub mod Shots
+pub mod Ticks
+pub mod Lending
+pub mod Openings

@@ -1,9 +1,0 @@
--- the edit and the settling leave the clock
-use Rattle.std.proofs.Common.{ap}
-use Rattle.mix_model.specs.Marks.{GraphModel, edited, settled_by}
-use Rattle.mix_model.specs.Edits.{item_enabled}
-use Rattle.mix_test_control.proofs.tests.since.enable.Goals as goal
-
-pub returns-in-Ok : goal.returns-in-Ok
-unfolding edited settled_by item_enabled
-returns-in-Ok c = ap (λ (m : GraphModel). m.present.clock) c.in-Ok.ensures.ok
