@@ -1,9 +1,7 @@
-pub mod Collections
 pub mod Ends
+pub mod Opened
 pub mod Output
 pub mod PictureText
-pub mod Read
 pub mod Run
 pub mod Starting
-pub mod Within
 pub mod Words

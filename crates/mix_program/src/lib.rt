@@ -1,7 +1,6 @@
 //! The program as one call: a command's words, and the objects that it names.
 #![tactic(auto)]
 
-mod collection;
 mod running;
 mod starting;
 mod top;

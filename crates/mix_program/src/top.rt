@@ -4,14 +4,15 @@ ghost use Rattle.mix_outside.specs.Faults.{Rose};
 ghost use Rattle.mix_base.specs.Limits.{standard};
 ghost use Rattle.mix_engine.specs.Engines.{are_limits};
 ghost use Rattle.mix_engine.specs.Openings.{can_open, IsFitting};
-ghost use Rattle.mix_program.specs.Collections.{collection_of, where_it};
+ghost use Rattle.mix_collection.specs.Collections.{where_it};
+ghost use Rattle.mix_program.specs.Opened.{collection_of};
 ghost use Rattle.mix_program.specs.Ends.{Ends, Finishes, Stops, status_at, IsWhole, IsTorn, IsStatus};
 ghost use Rattle.mix_program.specs.Run.{run_from};
 ghost use Rattle.mix_program.specs.Words.{is_replay};
 
-use crate::collection::{Opened, read_collection};
 use crate::running::{Ended, Finished, refuse_collection, replay};
 use mix_base::{Limits, Text};
+use mix_collection::{CollectionFault, read_collection};
 use mix_engine::{Engine, Setup};
 use mix_model::Collection;
 use mix_outside::{Sink, Source};
@@ -79,10 +80,10 @@ fn run_replay<C: Source, S: Source, K: Sink>(
     ensures steady_out { result ≢ Ended.WriteFault → K.faults out.new ≡ K.faults out.old }
 {
     match read_collection(alloc, collection) {
-        Opened::Collection(read) => run_opened(alloc, limits, read, script, out),
-        Opened::NotBuilt => refuse_collection(out),
-        Opened::ReadFault => Ended::ReadFault,
-        Opened::NoMemory => Ended::NoMemory,
+        Ok(read) => run_opened(alloc, limits, read, script, out),
+        Err(CollectionFault::NotBuilt) => refuse_collection(out),
+        Err(CollectionFault::Failed) => Ended::ReadFault,
+        Err(CollectionFault::NoMemory) => Ended::NoMemory,
     }
 }
 

@@ -1,14 +1,9 @@
 -- A canvas pixel by pixel.
 use Rattle.std.proofs.Common.{◌≡◌, ℕ, zero, suc, ◌<◌, ◌≤◌, ◌+◌, ◌*◌, List, [], ◌∷◌, ◌++◌, length}
 use Rattle.std.proofs.Common.{get_or}
-use Rattle.std.proofs.Common.{take, drop, slice_set, ap, ◌∙◌, sym, subst, refl, arith}
-use Rattle.std.specs.Simd.Lanes.{zip2}
+use Rattle.std.proofs.Common.{take, drop, ap, subst, refl, arith}
 use Rattle.std.proofs.lemmas.Simd.{get_or-zip2}
-use Rattle.std.proofs.Common.{Some}
-use Rattle.mix_model.specs.declared.draw.Draw.{Draw}
-use Rattle.mix_model.specs.declared.draw.Shot.{Shot}
-use Rattle.mix_model.specs.Colours.{Colour, black, colour_at, pixel_at}
-use Rattle.mix_model.specs.Plans.{draws_over, base_colour, shot_colour}
+use Rattle.mix_model.specs.Colours.{Colour, colour_at, pixel_at}
 use Rattle.mix_model.specs.Blending.{faded, faded_colour, bytes_faded}
 use Rattle.mix_raster.specs.Fills.{IsFilled}
 use Rattle.mix_raster.proofs.Rows.{rows_apart}
@@ -61,55 +56,3 @@ canvas_faded t n size xs ys long long_to x y left up =
     let inside = pixel_inside size.0 size.1 x y left up in
     let same : length xs ≡ length ys = omega arith in
     colour_faded t n xs ys same (4 * size.0 * y + 4 * x) (omega (arith, inside))
-
--- one byte more of a fade
-fade_next : (f : ℕ → ℕ → ℕ) (at : ℕ) (xs ys : List ℕ) → length xs ≡ length ys →
-    at < length xs →
-    slice_set (zip2 f (take at xs) (take at ys) ++ drop at xs) at
-    (f (get_or (zip2 f (take at xs) (take at ys) ++ drop at xs) at 0) (get_or ys at 0))
-    ≡ zip2 f (take (suc at) xs) (take (suc at) ys) ++ drop (suc at) xs
-fade_next f zero (x ∷ xs) (y ∷ ys) same h = refl
-fade_next f (suc at) (x ∷ xs) (y ∷ ys) same h =
-    ap (λ rest. f x y ∷ rest) (fade_next f at xs ys (omega arith) (omega arith))
-fade_next f at xs ys same h = absurd (omega arith)
-
-pub fade_more : (f : ℕ → ℕ → ℕ) (at next : ℕ) (xs ys now : List ℕ) → next ≡ suc at →
-    length xs ≡ length ys → at < length xs →
-    now ≡ zip2 f (take at xs) (take at ys) ++ drop at xs →
-    slice_set now at (f (get_or now at 0) (get_or ys at 0))
-    ≡ zip2 f (take next xs) (take next ys) ++ drop next xs
-fade_more f at next xs ys now more same h is = rw (more, is) (fade_next f at xs ys same h)
-
--- the fade of a shot's two lists, of which each byte list is known under a second name
-pub base_faded : (shot : Shot) (tick : ℕ) (size : ℕ × ℕ) (from to given : List Draw)
-    (a b c a' b' c' : List ℕ) → from ≡ shot.from → shot.to ≡ Some to → given ≡ to →
-    a' ≡ a → b' ≡ b → c' ≡ c →
-    IsFilled size a (λ x y. draws_over tick x y black from) →
-    IsFilled size b (λ x y. draws_over tick x y black given) →
-    IsFilled size c (λ x y.
-    faded_colour shot.t shot.n (pixel_at size.0 a' x y) (pixel_at size.0 b' x y)) →
-    IsFilled size c' (base_colour shot tick shot.to)
-base_faded shot tick size from to given a b c a' b' c' first is second p q r one other faded
-    x y left up =
-    ap (λ bytes. pixel_at size.0 bytes x y) r
-    ∙ faded x y left up
-    ∙ ap (λ s. faded_colour shot.t shot.n s (pixel_at size.0 b' x y))
-    (ap (λ bytes. pixel_at size.0 bytes x y) p ∙ one x y left up
-    ∙ ap (draws_over tick x y black) first)
-    ∙ ap (λ s. faded_colour shot.t shot.n (draws_over tick x y black shot.from) s)
-    (ap (λ bytes. pixel_at size.0 bytes x y) q ∙ other x y left up
-    ∙ ap (draws_over tick x y black) second)
-    ∙ sym (ap (λ o. base_colour shot tick o x y) is)
-
--- and the further draws over it
-pub shot_filled : (shot : Shot) (tick : ℕ) (size : ℕ × ℕ) (over : List Draw) (a b a' b' : List ℕ) →
-    over ≡ shot.over → a' ≡ a → b' ≡ b →
-    IsFilled size a (base_colour shot tick shot.to) →
-    IsFilled size b (λ x y. draws_over tick x y (pixel_at size.0 a' x y) over) →
-    IsFilled size b' (shot_colour shot tick)
-shot_filled shot tick size over a b a' b' first p q base painted x y left up =
-    ap (λ bytes. pixel_at size.0 bytes x y) q
-    ∙ painted x y left up
-    ∙ ap (λ below. draws_over tick x y below over)
-    (ap (λ bytes. pixel_at size.0 bytes x y) p ∙ base x y left up)
-    ∙ ap (draws_over tick x y (base_colour shot tick shot.to x y)) first

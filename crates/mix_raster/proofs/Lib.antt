@@ -4,13 +4,23 @@ pub mod Ranges
 pub mod Channels
 -- columns and rows lead on apart from each other
 pub mod Apart
+-- the columns, or rows, of a span lead into the source, and no others
+pub mod SpanLemmas
 -- what a draw lays over a pixel is the draw
 pub mod Sources
 -- a row of pixels, one by one
 pub mod Rows
--- a row of the canvas under a draw
+-- a part of some bytes that was written, and pixels in it and beside it
+pub mod Parts
+-- a row of a band under a draw, and the band
 pub mod Layers
 -- a canvas, pixel by pixel
 pub mod Canvases
+-- what a row shows of a source
+pub mod FillLemmas
 -- a picture of a shot is opaque
 pub mod Opaque
+-- a draw that covers a pixel whole hides what lies below it
+pub mod HidingLemmas
+-- bands of a picture, one by one and beside each other
+pub mod Bands

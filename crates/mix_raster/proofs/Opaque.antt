@@ -27,7 +27,7 @@ reached_keeps settings since tick mode (Some p) below = tested_keeps
     (is_inside (size_of settings (0, 0)) p.0 p.1) mode (pixel_of settings since tick p.0 p.1) below
 
 -- draws keep the alpha of what is below
-draws_keep : (tick x y : ℕ) (draws : List Draw) (below : Colour) →
+pub draws_keep : (tick x y : ℕ) (draws : List Draw) (below : Colour) →
     (draws_over tick x y below draws).alpha ≡ below.alpha
 draws_keep tick x y [] below = refl
 draws_keep tick x y (draw ∷ draws) below = draws_keep tick x y draws (draw_over tick x y below draw)
@@ -39,7 +39,7 @@ whole_faded t n h =
     let parts : (n - t) * 255 + t * 255 + n / 2 ≡ 255 * n + n / 2 = omega arith in
     ap (λ z. z / n) parts ∙ div-mul-add 255 n (n / 2) (omega arith)
 
-base_opaque : (shot : Shot) (tick x y : ℕ) (to : Option (List Draw)) → shot.t < shot.n →
+pub base_opaque : (shot : Shot) (tick x y : ℕ) (to : Option (List Draw)) → shot.t < shot.n →
     (base_colour shot tick to x y).alpha ≡ 255
 base_opaque shot tick x y None h = draws_keep tick x y shot.from black
 base_opaque shot tick x y (Some to) h =

@@ -12,7 +12,8 @@ use Rattle.mix_model.specs.Placing.{Point}
 use Rattle.mix_model.specs.Drawing.{is_inside, where_true, where_some, input_over}
 use Rattle.mix_model.specs.Plans.{reached, draw_over, source_within, source_of}
 use Rattle.mix_raster.specs.Axes.{axis_reached, exchanged}
-use Rattle.mix_raster.specs.Ways.{cut, across_side, down_side, column_led, row_led, met}
+use Rattle.mix_raster.specs.Spans.{cut}
+use Rattle.mix_raster.specs.Ways.{across_side, down_side, column_led, row_led, met}
 use Rattle.mix_raster.proofs.Apart.{crossing, steps_apart}
 use Rattle.mix_raster.proofs.Channels.{over_clear}
 

@@ -1,10 +1,11 @@
 //! One direction of a step: where the columns, or the rows, of a scene or group lead.
-ghost use Rattle.std.specs.Prelude.{◌≡◌, ◌<◌, ◌≤◌, ◌+◌, ◌*◌, pos, ◌-ℤ◌, IfSome, IsTrue, max, min};
+ghost use Rattle.std.specs.Prelude.{◌≡◌, ◌<◌, ◌≤◌, ◌+◌, ◌*◌, ℕ, pos, ◌+ℤ◌, ◌-ℤ◌, IfSome, IsTrue, max, min};
 ghost use Rattle.mix_model.specs.Values.{is_place};
 ghost use Rattle.mix_model.specs.Placing.{cropped, back, turned_choice, within};
 ghost use Rattle.mix_model.specs.Plans.{is_step};
 ghost use Rattle.mix_raster.specs.Axes.{mirrors_columns, mirrors_rows, across, downwards};
 ghost use Rattle.mix_raster.specs.Axes.{axis_through, led_by, IsAxis};
+ghost use Rattle.mix_raster.specs.Spans.{laid, or_first, places_before, span_through};
 
 use mix_model::{Place, Step};
 
@@ -155,6 +156,15 @@ fn along(z: u32, before: u32, position: i32, side: u32) -> Option<u32>
     }
 }
 
+/// The place i of a box in what holds it, or the first one where that lies before it.
+fn laid_at(i: u32, position: i32, before: u32) -> u32
+    requires { i ≤ 65536 }
+    ensures { result ≡ or_first (pos i +ℤ position -ℤ pos before) }
+{
+    let place = i64::from(i) + i64::from(position) - i64::from(before);
+    if place < 0 { 0 } else { place as u32 }
+}
+
 impl Axis {
     /// Where the column or row z leads, or nothing outside the box.
     pub fn lead(&self, z: u32) -> Option<u32>
@@ -170,5 +180,46 @@ impl Axis {
             place
         };
         Some(self.crop + from_end / self.scale)
+    }
+
+    /// Where the column or row z leads, or z itself outside the box.
+    pub fn lead_or_stay(&self, z: u32) -> u32
+        requires axis { IsAxis self.now }
+        ensures value { (u : ℕ) → led_by self.now z ≡ Some u → result ≡ u }
+    {
+        match self.lead(z) {
+            Some(place) => place,
+            None => z,
+        }
+    }
+
+    /// How many places of the box, from the end that is counted from, lead before this place.
+    fn places_before(&self, u: u32) -> u32
+        ensures value { result ≡ places_before self.now u }
+        ensures small { result ≤ self.now.side }
+    {
+        let places = u64::from(u.saturating_sub(self.crop)) * u64::from(self.scale);
+        places.min(u64::from(self.side)) as u32
+    }
+
+    fn laid(&self, i: u32) -> u32
+        requires { i ≤ 65536 }
+        ensures { result ≡ laid self.now i }
+    {
+        laid_at(i, self.position, self.back)
+    }
+
+    /// Which columns, or rows, lead between two places: from the first on, and before the second.
+    pub fn span(&self, span: (u32, u32)) -> (u32, u32)
+        requires axis { IsAxis self.now }
+        ensures value { result ≡ span_through self.now span }
+    {
+        let near = self.places_before(span.0);
+        let far = self.places_before(span.1);
+        if self.mirrored {
+            (self.laid(self.side - far), self.laid(self.side - near))
+        } else {
+            (self.laid(near), self.laid(far))
+        }
     }
 }

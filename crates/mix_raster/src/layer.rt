@@ -1,108 +1,107 @@
-//! A draw over the canvas, row by row.
-ghost use Rattle.std.specs.Prelude.{◌≡◌, ◌+◌, ◌*◌, ◌^◌, ◌≤◌, ◌<◌, ℕ, length, IsTrue};
+//! A draw over a band of the canvas, row by row.
+ghost use Rattle.std.specs.Prelude.{◌≡◌, ◌+◌, ◌*◌, ◌^◌, ◌≤◌, ◌<◌, length};
+ghost use Rattle.std.specs.Prelude.{IfSome, IsTrue};
 ghost use Rattle.mix_model.specs.Colours.{pixel_at};
 ghost use Rattle.mix_model.specs.Plans.{is_draw, are_paintable, draw_over, draws_over};
-ghost use Rattle.mix_raster.specs.Ways.{IsLed};
-ghost use Rattle.mix_raster.specs.Fills.{IsFilled};
+ghost use Rattle.mix_raster.specs.Ways.{places_of, IsLed, IsShown};
+ghost use Rattle.mix_raster.specs.Fills.{IsFilled, IsOpaque, IsPaintedAt};
 
-use crate::fill::fill_row;
-use crate::span::{Span, over_span};
+use crate::band::Band;
+use crate::fill::{Shown, show};
+use crate::span::over_span;
 use crate::way::Way;
 use mix_model::Draw;
 
-/// Where a row of a canvas of this size begins.
-fn row_start(size: (u32, u32), y: u32) -> usize
-    requires within { y < size.1 }
-    requires size { 4 * (size.0 * size.1) < 2 ^ 64 }
-    ensures value { result ≡ 4 * size.0 * y }
-    ensures room { result + 4 * size.0 ≤ 4 * (size.0 * size.1) }
-{
-    4 * size.0 as usize * y as usize
-}
-
-/// Paints one row of a draw. `row` is room for it.
+/// Paints the row of a band that is the given one of those that a way leads somewhere. `row` is room for
+/// its pixels, and may show something already. It says what it shows then.
 fn paint_row(
     canvas: &mut [u8],
     row: &mut [u8],
     way: &Way,
     draw: &Draw,
     tick: u64,
-    size: (u32, u32),
-    y: u32,
-)
+    band: Band,
+    i: usize,
+    shown: Option<Shown>,
+) -> Shown
     requires draw { IsTrue (is_draw draw.now) }
     requires time { draw.now.since ≤ tick }
-    requires way { IsLed way.now draw.now }
-    requires columns { length way.now.columns.items ≡ size.0 }
-    requires lines { length way.now.lines.items ≡ size.1 }
-    requires canvas { length canvas.old ≡ 4 * (size.0 * size.1) }
-    requires row { length row.old ≡ 4 * size.0 }
-    requires within { y < size.1 }
-    ensures here { (x : ℕ) → x < size.0 → pixel_at size.0 canvas.new x y
-        ≡ draw_over tick x y (pixel_at size.0 canvas.old x y) draw.now }
-    ensures above { (x j : ℕ) → x < size.0 → j < y →
-        pixel_at size.0 canvas.new x j ≡ pixel_at size.0 canvas.old x j }
-    ensures under { (x j : ℕ) → x < size.0 → y < j →
-        pixel_at size.0 canvas.new x j ≡ pixel_at size.0 canvas.old x j }
+    requires way { IsLed way.now draw.now band }
+    requires canvas { length canvas.old ≡ 4 * (band.width * band.rows) }
+    requires opaque { IsOpaque (band.width, band.rows) canvas.old }
+    requires row { length row.old ≡ 4 * band.width }
+    requires within { i < way.now.down.count }
+    requires shown { IfSome shown
+        (IsShown draw.now tick way.now.swap (places_of way.now.across) row.old) }
+    ensures shown { IsShown draw.now tick way.now.swap (places_of way.now.across) row.new result }
+    ensures painted { IsPaintedAt tick draw.now band (way.now.down.first + i) canvas.old canvas.new }
 {
-    let Some(line) = way.lines[y as usize] else {
-        return
-    };
-    fill_row(row, draw, tick, way, y, line);
-    let span = Span {
-        start: row_start(size, y),
-        first: way.first,
-        end: way.end,
-    };
-    over_span(canvas, row, span, draw.blend);
+    let line = way.down.places()[i];
+    let y = way.down.first + i;
+    let shown = show(row, draw, tick, way.swap, way.across.places(), line, shown);
+    let at = band.start(y) + 4 * way.across.first;
+    over_span(canvas, row, at, way.across.count, draw.blend, shown.hides);
+    shown
 }
 
-/// Paints a draw over the canvas. `row` is room for a row, `way` for the tables.
-fn paint_draw(
-    canvas: &mut [u8],
-    row: &mut [u8],
-    way: &mut Way,
-    draw: &Draw,
-    tick: u64,
-    size: (u32, u32),
-)
+/// Paints a draw over a band whose columns and rows a way leads to its source.
+fn paint_led(canvas: &mut [u8], row: &mut [u8], way: &Way, draw: &Draw, tick: u64, band: Band)
     requires draw { IsTrue (is_draw draw.now) }
     requires time { draw.now.since ≤ tick }
-    requires columns { length way.old.columns.items ≡ size.0 }
-    requires lines { length way.old.lines.items ≡ size.1 }
-    requires canvas { length canvas.old ≡ 4 * (size.0 * size.1) }
-    requires row { length row.old ≡ 4 * size.0 }
-    ensures painted { IsFilled size canvas.new
-        (λ x y. draw_over tick x y (pixel_at size.0 canvas.old x y) draw.now) }
-    ensures columns { length way.new.columns.items ≡ size.0 }
-    ensures lines { length way.new.lines.items ≡ size.1 }
+    requires way { IsLed way.now draw.now band }
+    requires canvas { length canvas.old ≡ 4 * (band.width * band.rows) }
+    requires opaque { IsOpaque (band.width, band.rows) canvas.old }
+    requires row { length row.old ≡ 4 * band.width }
+    ensures painted { IsFilled (band.width, band.rows) canvas.new (λ x y.
+        draw_over tick x (band.top + y) (pixel_at band.width canvas.old x y) draw.now) }
 {
-    way.lead(draw);
-    for y in 0..size.1 {
-        paint_row(canvas, row, way, draw, tick, size, y);
+    let mut shown = None;
+    for i in 0..way.down.count {
+        shown = Some(paint_row(canvas, row, way, draw, tick, band, i, shown));
     }
 }
 
-/// Paints draws over the canvas, the first at the bottom.
+/// Paints a draw over a band. `row` is room for a row, `way` for its columns and rows.
+fn paint_draw(canvas: &mut [u8], row: &mut [u8], way: &mut Way, draw: &Draw, tick: u64, band: Band)
+    requires draw { IsTrue (is_draw draw.now) }
+    requires time { draw.now.since ≤ tick }
+    requires columns { band.width ≤ length way.old.across.table.items }
+    requires rows { band.rows ≤ length way.old.down.table.items }
+    requires canvas { length canvas.old ≡ 4 * (band.width * band.rows) }
+    requires opaque { IsOpaque (band.width, band.rows) canvas.old }
+    requires row { length row.old ≡ 4 * band.width }
+    requires tall { band.top + band.rows < 2 ^ 32 }
+    ensures painted { IsFilled (band.width, band.rows) canvas.new (λ x y.
+        draw_over tick x (band.top + y) (pixel_at band.width canvas.old x y) draw.now) }
+    ensures columns { length way.new.across.table.items ≡ length way.old.across.table.items }
+    ensures rows { length way.new.down.table.items ≡ length way.old.down.table.items }
+{
+    way.lead(draw, band);
+    paint_led(canvas, row, way, draw, tick, band);
+}
+
+/// Paints draws over a band, the first at the bottom.
 pub(crate) fn paint_draws(
     canvas: &mut [u8],
     row: &mut [u8],
     way: &mut Way,
     draws: &[Draw],
     tick: u64,
-    size: (u32, u32),
+    band: Band,
 )
     requires draws { IsTrue (are_paintable tick draws.now) }
-    requires columns { length way.old.columns.items ≡ size.0 }
-    requires lines { length way.old.lines.items ≡ size.1 }
-    requires canvas { length canvas.old ≡ 4 * (size.0 * size.1) }
-    requires row { length row.old ≡ 4 * size.0 }
-    ensures painted { IsFilled size canvas.new
-        (λ x y. draws_over tick x y (pixel_at size.0 canvas.old x y) draws.now) }
-    ensures columns { length way.new.columns.items ≡ size.0 }
-    ensures lines { length way.new.lines.items ≡ size.1 }
+    requires columns { band.width ≤ length way.old.across.table.items }
+    requires rows { band.rows ≤ length way.old.down.table.items }
+    requires canvas { length canvas.old ≡ 4 * (band.width * band.rows) }
+    requires opaque { IsOpaque (band.width, band.rows) canvas.old }
+    requires row { length row.old ≡ 4 * band.width }
+    requires tall { band.top + band.rows < 2 ^ 32 }
+    ensures painted { IsFilled (band.width, band.rows) canvas.new (λ x y.
+        draws_over tick x (band.top + y) (pixel_at band.width canvas.old x y) draws.now) }
+    ensures columns { length way.new.across.table.items ≡ length way.old.across.table.items }
+    ensures rows { length way.new.down.table.items ≡ length way.old.down.table.items }
 {
     for draw in draws {
-        paint_draw(canvas, row, way, draw, tick, size);
+        paint_draw(canvas, row, way, draw, tick, band);
     }
 }

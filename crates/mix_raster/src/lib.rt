@@ -2,14 +2,19 @@
 #![tactic(auto)]
 
 mod axis;
+mod band;
 mod fill;
+mod hiding;
 mod layer;
+mod lead;
 mod mixing;
-mod mode;
 mod painting;
 mod pixels;
 mod span;
+mod turns;
 mod way;
+mod workers;
 
 pub use mixing::mix_pictures;
 pub use painting::paint;
+pub use workers::paint_rows;

@@ -1,34 +1,14 @@
 //! The mean of two pictures.
 ghost use Rattle.std.specs.Prelude.{◌≡◌, ◌*◌, ◌<◌, ℕ, length, IsTrue, IfOk};
 ghost use Rattle.mix_model.specs.Colours.{pixel_at};
-ghost use Rattle.mix_model.specs.Blending.{faded, faded_colour, bytes_faded};
+ghost use Rattle.mix_model.specs.Blending.{faded_colour, bytes_faded};
 ghost use Rattle.mix_model.specs.Pictures.{is_picture};
 ghost use Rattle.mix_raster.specs.Fills.{IsFilled};
 
 use mix_base::{ListOf, NoMemory};
+use mix_lanes::fade_onto;
 use mix_model::Picture;
 use std::alloc::Global;
-
-/// t parts of n of a channel, and the rest of another, to the nearest.
-fn fade(from: u8, to: u8, t: u32, n: u32) -> u8
-    requires { t < n }
-    ensures { result ≡ faded t n from to }
-{
-    let whole = u64::from(n);
-    let part = u64::from(t);
-    (((whole - part) * u64::from(from) + part * u64::from(to) + whole / 2) / whole) as u8
-}
-
-/// Fades bytes to others, t parts of n.
-fn fade_to(bytes: &mut [u8], to: &[u8], t: u32, n: u32)
-    requires weights { t < n }
-    requires same { length bytes.old ≡ length to.now }
-    ensures value { bytes.new ≡ bytes_faded t n bytes.old to.now }
-{
-    for at in 0..bytes.len() {
-        bytes[at] = fade(bytes[at], to[at], t, n);
-    }
-}
 
 /// Fades a canvas to another, t parts of n.
 pub(crate) fn fade_canvas(rgba: &mut [u8], to: &[u8], t: u32, n: u32, size: (u32, u32))
@@ -39,7 +19,7 @@ pub(crate) fn fade_canvas(rgba: &mut [u8], to: &[u8], t: u32, n: u32, size: (u32
     ensures faded { IsFilled size rgba.new (λ x y.
         faded_colour t n (pixel_at size.0 rgba.old x y) (pixel_at size.0 to.now x y)) }
 {
-    fade_to(rgba, to, t, n);
+    fade_onto(rgba, to, t, n);
 }
 
 /// The mean of two pictures of one size, t parts of n of the second, to the nearest in each channel

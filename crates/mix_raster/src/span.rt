@@ -1,58 +1,85 @@
-//! A part of a row of pixels over the same part of a row of the canvas.
-ghost use Rattle.std.specs.Prelude.{◌≡◌, ◌+◌, ◌*◌, ◌≤◌, ◌<◌, ℕ, length};
+//! A part of a row of pixels over as many pixels of the canvas.
+ghost use Rattle.std.specs.Prelude.{◌≡◌, ◌+◌, ◌*◌, ◌≤◌, ◌<◌, ℕ, length, IsTrue};
 ghost use Rattle.mix_model.specs.Colours.{colour_at};
 ghost use Rattle.mix_model.specs.Blending.{over};
+ghost use Rattle.mix_model.specs.declared.kind.Blend.TheVariants.{Normal};
 
-use crate::mode::{Additive, Darken, Lighten, Mode, Multiply, Normal, Screen, Subtract};
-use crate::pixels::over_pixel;
+use mix_lanes::over_row;
 use mix_model::Blend;
 
-/// Which pixels of a row, and where the row begins in the canvas.
-#[derive(Clone, Copy)]
-pub(crate) struct Span {
-    pub start: usize,
-    pub first: usize,
-    pub end: usize,
+/// Whether so many pixels of a row are opaque.
+fn are_opaque(row: &[u8], count: usize) -> bool
+    requires room { 4 * count ≤ length row.now }
+    ensures opaque { IsTrue result → (i : ℕ) → i < count → (colour_at row.now (4 * i)).alpha ≡ 255 }
+{
+    for i in 0..count {
+        if row[4 * i + 3] != 255 {
+            return false;
+        }
+    }
+    true
 }
 
-/// Lays the pixels of a span over those of the canvas, in one mode.
-fn over_by<M: Mode>(canvas: &mut [u8], row: &[u8], span: Span)
-    requires rising { span.first ≤ span.end }
-    requires canvas { span.start + 4 * span.end ≤ length canvas.old }
-    requires row { 4 * span.end ≤ length row.now }
-    ensures here { (x : ℕ) → span.first ≤ x → x < span.end →
-        colour_at canvas.new (span.start + 4 * x)
-        ≡ over M.blend (colour_at row.now (4 * x)) (colour_at canvas.old (span.start + 4 * x)) }
-    ensures before { (k : ℕ) → k + 4 ≤ span.start + 4 * span.first →
-        colour_at canvas.new k ≡ colour_at canvas.old k }
-    ensures after { (k : ℕ) → span.start + 4 * span.end ≤ k →
-        colour_at canvas.new k ≡ colour_at canvas.old k }
+/// Whether so many pixels of a row hide what they lie over.
+pub(crate) fn hide_all(row: &[u8], count: usize, blend: Blend) -> bool
+    requires room { 4 * count ≤ length row.now }
+    ensures normal { IsTrue result → blend ≡ Normal }
+    ensures opaque { IsTrue result → (i : ℕ) → i < count → (colour_at row.now (4 * i)).alpha ≡ 255 }
 {
-    for x in span.first..span.end {
-        over_pixel::<M>(canvas, span.start + 4 * x, row, 4 * x);
+    match blend {
+        Blend::Normal => are_opaque(row, count),
+        _ => false,
     }
 }
 
-/// Lays the pixels of a span over those of the canvas, in the draw's mode.
-pub(crate) fn over_span(canvas: &mut [u8], row: &[u8], span: Span, blend: Blend)
-    requires rising { span.first ≤ span.end }
-    requires canvas { span.start + 4 * span.end ≤ length canvas.old }
-    requires row { 4 * span.end ≤ length row.now }
-    ensures here { (x : ℕ) → span.first ≤ x → x < span.end →
-        colour_at canvas.new (span.start + 4 * x)
-        ≡ over blend (colour_at row.now (4 * x)) (colour_at canvas.old (span.start + 4 * x)) }
-    ensures before { (k : ℕ) → k + 4 ≤ span.start + 4 * span.first →
-        colour_at canvas.new k ≡ colour_at canvas.old k }
-    ensures after { (k : ℕ) → span.start + 4 * span.end ≤ k →
-        colour_at canvas.new k ≡ colour_at canvas.old k }
+/// Copies so many pixels of a row to the canvas.
+fn copy_span(canvas: &mut [u8], row: &[u8], at: usize, count: usize)
+    requires canvas { at + 4 * count ≤ length canvas.old }
+    requires row { 4 * count ≤ length row.now }
+    ensures here { (i : ℕ) → i < count →
+        colour_at canvas.new (at + 4 * i) ≡ colour_at row.now (4 * i) }
+    ensures before { (k : ℕ) → k + 4 ≤ at → colour_at canvas.new k ≡ colour_at canvas.old k }
+    ensures after { (k : ℕ) → at + 4 * count ≤ k → colour_at canvas.new k ≡ colour_at canvas.old k }
 {
-    match blend {
-        Blend::Normal => over_by::<Normal>(canvas, row, span),
-        Blend::Additive => over_by::<Additive>(canvas, row, span),
-        Blend::Subtract => over_by::<Subtract>(canvas, row, span),
-        Blend::Screen => over_by::<Screen>(canvas, row, span),
-        Blend::Multiply => over_by::<Multiply>(canvas, row, span),
-        Blend::Lighten => over_by::<Lighten>(canvas, row, span),
-        Blend::Darken => over_by::<Darken>(canvas, row, span),
+    let end = at + 4 * count;
+    canvas[at..end].copy_from_slice(&row[0..4 * count]);
+}
+
+/// Lays so many pixels of a row over the canvas.
+fn lay_span(canvas: &mut [u8], row: &[u8], at: usize, count: usize, blend: Blend)
+    requires canvas { at + 4 * count ≤ length canvas.old }
+    requires row { 4 * count ≤ length row.now }
+    ensures here { (i : ℕ) → i < count → colour_at canvas.new (at + 4 * i)
+        ≡ over blend (colour_at row.now (4 * i)) (colour_at canvas.old (at + 4 * i)) }
+    ensures before { (k : ℕ) → k + 4 ≤ at → colour_at canvas.new k ≡ colour_at canvas.old k }
+    ensures after { (k : ℕ) → at + 4 * count ≤ k → colour_at canvas.new k ≡ colour_at canvas.old k }
+{
+    let end = at + 4 * count;
+    over_row(&mut canvas[at..end], &row[0..4 * count], blend);
+}
+
+/// Lays so many pixels of a row over those of an opaque canvas. What hides these is copied.
+pub(crate) fn over_span(
+    canvas: &mut [u8],
+    row: &[u8],
+    at: usize,
+    count: usize,
+    blend: Blend,
+    hides: bool,
+)
+    requires canvas { at + 4 * count ≤ length canvas.old }
+    requires row { 4 * count ≤ length row.now }
+    requires opaque { (i : ℕ) → i < count → (colour_at canvas.old (at + 4 * i)).alpha ≡ 255 }
+    requires normal { IsTrue hides → blend ≡ Normal }
+    requires hides { IsTrue hides → (i : ℕ) → i < count → (colour_at row.now (4 * i)).alpha ≡ 255 }
+    ensures here { (i : ℕ) → i < count → colour_at canvas.new (at + 4 * i)
+        ≡ over blend (colour_at row.now (4 * i)) (colour_at canvas.old (at + 4 * i)) }
+    ensures before { (k : ℕ) → k + 4 ≤ at → colour_at canvas.new k ≡ colour_at canvas.old k }
+    ensures after { (k : ℕ) → at + 4 * count ≤ k → colour_at canvas.new k ≡ colour_at canvas.old k }
+{
+    if hides {
+        copy_span(canvas, row, at, count);
+    } else {
+        lay_span(canvas, row, at, count, blend);
     }
 }

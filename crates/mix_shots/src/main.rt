@@ -13,6 +13,7 @@ mod places;
 mod runs;
 mod settings;
 mod shots;
+mod workers;
 
 use kinds::Kinds;
 use mix_tables::{Trouble, go};
@@ -20,19 +21,27 @@ use mixes::Mixes;
 use pictures::Pictures;
 use pixels::{Pixels, Samples};
 use settings::SettingsTable;
+use std::fs;
 use std::process::ExitCode;
+use workers::go_by_workers;
 
-fn run(rt: &HostRuntime) -> Result<(), Trouble> {
+/// Goes through the tables that want no workers, and gives the text of the one that does.
+fn run(rt: &HostRuntime) -> Result<String, Trouble> {
     go(rt, "kinds", &Kinds)?;
     go(rt, "settings", &SettingsTable)?;
     go(rt, "pixels", &Pixels)?;
     go(rt, "samples", &Samples)?;
     go(rt, "pictures", &Pictures)?;
-    go(rt, "mixes", &Mixes)
+    go(rt, "mixes", &Mixes)?;
+    Ok(fs::read_to_string(rt, "workers.tsv")?)
 }
 
 fn main(rt: HostRuntime) -> ExitCode {
-    match run(&rt) {
+    let ended = match run(&rt) {
+        Ok(text) => go_by_workers(&rt, rt.alloc(), text.as_str()),
+        Err(trouble) => Err(trouble),
+    };
+    match ended {
         Ok(()) => ExitCode::SUCCESS,
         Err(_) => ExitCode::FAILURE,
     }

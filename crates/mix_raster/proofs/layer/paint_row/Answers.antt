@@ -1,41 +1,39 @@
-use Rattle.std.proofs.Common.{◌≡◌, ◌<◌, ◌+◌, ◌*◌, ◌∙◌, sym, subst, refl, ℕ, None, length, get_or, arith}
-use Rattle.std.proofs.lemmas.List.{get_or_read_under}
-use Rattle.mix_model.specs.Colours.{colour_at}
-use Rattle.mix_model.specs.Plans.{draw_over}
-use Rattle.mix_raster.specs.Ways.{row_led}
-use Rattle.mix_raster.proofs.Rows.{rows_apart}
-use Rattle.mix_raster.proofs.Sources.{unseen_row}
-use Rattle.mix_raster.proofs.Layers.{row_painted}
+use Rattle.std.proofs.Common.{◌∙◌, List, ℕ, get_or, length, ap, subst, arith}
+use Rattle.std.proofs.lemmas.List.{length-take-le}
+use Rattle.mix_raster.specs.Ways.{IsShown, Shows}
+use Rattle.mix_raster.proofs.Layers.{painted_at, part_opaque}
 use Rattle.mix_raster.proofs.layer.paint_row.Goals as goal
 
--- a row that leads nowhere is left
-pub returns-in_default-clause-here : goal.returns-in_default-clause-here
-returns-in_default-clause-here c = λ x left.
+-- the whole band is opaque
+pub over_span-requires-clause-opaque : goal.over_span-requires-clause-opaque
+over_span-requires-clause-opaque c = part_opaque c.args.draw.now c.args.way.now c.args.band
+    c.args.canvas.now c.start.result c.args.i c.requires.way c.requires.opaque c.requires.within
+    c.start.ensures.value
+
+-- and so is the row, where it is said that it hides what it lies over
+pub over_span-requires-clause-hides : goal.over_span-requires-clause-hides
+over_span-requires-clause-hides c = λ hides i small.
     let way = c.args.way.now in
-    let y = c.args.y in
-    let within : y < length way.lines.items = omega arith in
-    let read : c.index.result.now ≡ get_or way.lines.items y None =
-    get_or_read_under way.lines.items y (length way.lines.items) c.index.result.now None
-    c.index.ensures within refl in
-    let nothing : row_led c.args.draw.now y ≡ None =
-    sym (c.requires.way.lines y within) ∙ sym read ∙ c.in_default.is in
-    sym (unseen_row c.args.tick x y _ c.args.draw.now nothing)
+    let counted = ap length c.places-2.ensures.value
+    ∙ length-take-le way.across.count way.across.table.items c.requires.way.across in
+    c.show-shown.ensures.shown.opaque hides i (omega (arith, counted))
 
--- the span of a row is painted
-pub returns-clause-here : goal.returns-clause-here
-returns-clause-here c = λ x left.
-    let new = c.over_span.new.canvas in
-    let old = c.args.canvas.now in
-    let draw = c.args.draw.now in
-    let P : ℕ → Type 0 = λ s. colour_at new (s + 4 * x)
-    ≡ draw_over c.args.tick x c.args.y (colour_at old (s + 4 * x)) draw in
-    subst P c.row_start.ensures.value
-    (row_painted c.args.tick c.args.y c.row_start.result draw c.args.way.now old new
-    c.fill_row.new.row c.requires.way c.fill_row.ensures.shown c.over_span.ensures.here
-    c.over_span.ensures.before c.over_span.ensures.after x (omega arith))
+-- the row shows what is said of it
+pub returns-clause-shown : goal.returns-clause-shown
+returns-clause-shown c =
+    let P : List ℕ → Type 0 = λ columns. IsShown c.args.draw.now c.args.tick c.args.way.now.swap
+    columns c.show-shown.new.row c.show-shown.result in
+    subst P c.places-2.ensures.value c.show-shown.ensures.shown
 
--- the rows above end before it
-pub returns-clause-above : goal.returns-clause-above
-returns-clause-above c = λ x j left up.
-    let apart = rows_apart c.args.size.0 j c.args.y up in
-    c.over_span.ensures.before _ (omega (arith, apart))
+-- and lies over that of the band
+pub returns-clause-painted : goal.returns-clause-painted
+returns-clause-painted c =
+    let P : List ℕ → Type 0 = λ columns. Shows c.args.draw.now c.args.tick c.args.way.now.swap
+    columns c.show-shown.result.line c.show-shown.new.row in
+    painted_at c.args.tick c.start.result c.show-shown.result.line c.args.i c.args.draw.now
+    c.args.way.now c.args.band c.args.canvas.now c.over_span.new.canvas c.show-shown.new.row
+    c.requires.way c.requires.within c.start.ensures.value
+    (c.show-shown.ensures.line
+    ∙ ap (λ (xs : List ℕ). get_or xs c.args.i 0) c.places.ensures.value)
+    (subst P c.places-2.ensures.value c.show-shown.ensures.shown.shows) c.over_span.ensures.here
+    c.over_span.ensures.before c.over_span.ensures.after

@@ -1,6 +1,4 @@
-use Rattle.std.proofs.Common.{◌≡◌, ◌<◌, ◌-◌, arith, ap, ◌∙◌, length, refl}
-use Rattle.std.proofs.lemmas.Grind.{common_steps}
-use Rattle.std.proofs.lemmas.Bool.Decides.{nat_tests}
+use Rattle.std.proofs.Common.{◌≡◌, ◌<◌, ◌-◌, arith, ap, ◌∙◌, length}
 use Rattle.mix_program.proofs.Runs.{whole_ends, whole_goes, end_ends, limit_is, fits_line}
 use Rattle.mix_program.proofs.Runs.{second_empty}
 use Rattle.mix_program.proofs.running.script.each_line.Goals as goal

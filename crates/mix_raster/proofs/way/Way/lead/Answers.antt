@@ -7,10 +7,10 @@ exchanges-swap-requires c = record {
   steps = draw_steps c.args.draw.now _ c.requires.draw c.as_slice-steps.ensures.value;
 }
 
-pub fill_table-requires-clause-steps : goal.fill_table-requires-clause-steps
-fill_table-requires-clause-steps c =
+pub find-requires-clause-steps : goal.find-requires-clause-steps
+find-requires-clause-steps c =
     draw_steps c.args.draw.now _ c.requires.draw c.as_slice-steps.ensures.value
 
-pub fill_table-requires-2-clause-steps : goal.fill_table-requires-2-clause-steps
-fill_table-requires-2-clause-steps c =
+pub find-requires-2-clause-steps : goal.find-requires-2-clause-steps
+find-requires-2-clause-steps c =
     draw_steps c.args.draw.now _ c.requires.draw c.as_slice-steps.ensures.value

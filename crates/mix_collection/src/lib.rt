@@ -1,0 +1,17 @@
+//! Reading a collection line by line.
+#![tactic(auto)]
+
+mod collection_fault;
+mod feed;
+mod fields;
+mod head;
+pub mod laws;
+mod lines;
+mod login;
+mod place;
+mod reading;
+mod registry;
+mod sources;
+
+pub use collection_fault::CollectionFault;
+pub use reading::read_collection;

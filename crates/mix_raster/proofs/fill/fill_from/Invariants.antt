@@ -1,0 +1,8 @@
+use Rattle.std.proofs.Common.{ℕ, ◌≡◌, ◌+◌, ◌*◌, ◌<◌, get_or}
+use Rattle.mix_model.specs.Colours.{colour_at}
+use Rattle.mix_raster.proofs.fill.fill_from.Given as goal
+
+-- the pixels so far
+abbrev pub invariant-loop-i : goal.invariant-loop-i
+invariant-loop-i l = (k : ℕ) → k < l.i → colour_at l.row (4 * k)
+    ≡ colour_at l.pixels (4 * (l.start + get_or l.columns k 0 * l.stride))
