@@ -1,8 +1,9 @@
 //! What single lines of a collection say.
-ghost use Rattle.std.specs.Prelude.{◌≡◌, ◌<◌, true, IfOk, IfSome, IsTrue, option_and_then};
+ghost use Rattle.std.specs.Prelude.{◌≡◌, ◌<◌, true, IfOk, IfSome, IsTrue, length, option_and_then};
 ghost use Rattle.std.specs.List.{list_all};
 ghost use Rattle.mix_base.specs.Names.{is_name};
 ghost use Rattle.mix_base.specs.Rates.{is_rate};
+ghost use Rattle.mix_model.specs.Collections.{is_secret};
 ghost use Rattle.mix_model.specs.Values.{is_canvas, is_format};
 ghost use Rattle.mix_collection.specs.Collections.{canvas_in, rate_in, record_in, secret_in, name_in};
 ghost use Rattle.mix_collection.specs.Collections.{two_items, only_item, picture_format, record_from};
@@ -143,6 +144,7 @@ fn are_lower_digits(digits: &[u8]) -> bool
 /// The salt that sixty-four digits in lower case write.
 fn salt_from(digits: &[u8]) -> Option<Bytes32>
     ensures value { result ≡ salt_from digits.now }
+    ensures long { IfSome result (λ salt. length salt ≡ 32) }
 {
     if !are_lower_digits(digits) {
         return None;
@@ -154,6 +156,7 @@ fn salt_from(digits: &[u8]) -> Option<Bytes32>
 fn secret_from(items: &[Json]) -> Result<Option<(Text, Bytes32)>, NoMemory>
     ensures value { IfOk result
         (λ secret. secret ≡ option_and_then secret_from (two_items items.now)) }
+    ensures valid { IfOk result (λ secret. IsTrue (is_secret secret)) }
 {
     match items {
         [password, salt] => match (text_in(password), text_in(salt)) {
@@ -171,6 +174,7 @@ fn secret_from(items: &[Json]) -> Result<Option<(Text, Bytes32)>, NoMemory>
 #[tactic(auto, unfolding(crate::specs::Collections::secret_in))]
 pub fn secret_in(alloc: Global, line: &[u8]) -> Result<Option<(Text, Bytes32)>, NoMemory>
     ensures value { IfOk result (λ secret. secret ≡ secret_in line.now) }
+    ensures valid { IfOk result (λ secret. IsTrue (is_secret secret)) }
 {
     match list_behind(alloc, b"secret", line)? {
         Some(items) => {

@@ -1,5 +1,6 @@
 //! The login of a collection.
-ghost use Rattle.std.specs.Prelude.{◌≡◌, ◌≢◌, ◌≤◌, ◌<◌, Err};
+ghost use Rattle.std.specs.Prelude.{◌≡◌, ◌≢◌, ◌≤◌, ◌<◌, Err, IfOk, IsTrue};
+ghost use Rattle.mix_model.specs.Collections.{is_secret};
 ghost use Rattle.mix_outside.specs.Faults.{Rose};
 ghost use Rattle.mix_collection.specs.Read.{LogsIn};
 ghost use Rattle.mix_collection.specs.Within.{lines_left};
@@ -22,6 +23,7 @@ pub fn read_login<C: Source>(
 ) -> Result<Login, CollectionFault>
     ensures login { C.Tells → LogsIn result feed.new.line.items
         (lines_left feed.old (C.left source.old)) (lines_left feed.new (C.left source.new)) }
+    ensures valid { IfOk result (λ secret. IsTrue (is_secret secret)) }
     ensures later { C.faults source.old ≤ C.faults source.new }
     ensures cause { result ≡ Err CollectionFault.Failed →
         Rose (C.faults source.old) (C.faults source.new) }

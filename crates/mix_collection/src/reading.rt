@@ -1,9 +1,11 @@
 //! A whole collection.
-ghost use Rattle.std.specs.Prelude.{◌≡◌, ◌≢◌, ◌≤◌, ◌<◌, [], All, IfOk, Err};
+ghost use Rattle.std.specs.Prelude.{◌≡◌, ◌≢◌, ◌≤◌, ◌<◌, [], All, IfOk, IsTrue, Err};
+ghost use Rattle.mix_base.specs.Names.{is_name};
+ghost use Rattle.mix_model.specs.Collections.{is_secret};
 ghost use Rattle.mix_outside.specs.Faults.{Rose};
 ghost use Rattle.mix_outside.specs.Lines.{Lines};
 ghost use Rattle.mix_collection.specs.Collections.{collection_read, collection_from};
-ghost use Rattle.mix_collection.specs.Fitting.{Fits, IsFitting};
+ghost use Rattle.mix_collection.specs.Fitting.{Fits, IsFitting, SetsNoChannel};
 ghost use Rattle.mix_collection.specs.Read.{Reads, Collects, CollectsBehind};
 ghost use Rattle.mix_collection.specs.Read.{IsHeadFitting, with_rest};
 ghost use Rattle.mix_collection.specs.Within.{lines_left};
@@ -20,7 +22,10 @@ use std::alloc::Global;
 /// The collection of these parts: what no line says has its default.
 fn collection_from(head: Head, secret: Login, registry: Registry) -> Collection
     requires head { IsHeadFitting head }
+    requires secret { IsTrue (is_secret secret) }
     requires lines { All Fits registry.lines }
+    requires unset { All SetsNoChannel registry.lines }
+    requires program { IsTrue (is_name registry.program) }
     ensures value { (rest : Lines) → result
         ≡ collection_from (with_rest head rest) secret registry }
     ensures fits { IsFitting result }

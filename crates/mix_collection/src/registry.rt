@@ -1,9 +1,10 @@
 //! What a collection opens with, and the program's scene.
 ghost use Rattle.std.specs.Prelude.{◌≡◌, ◌≢◌, ◌≤◌, ◌<◌, [], All, Err, IfOk, IsTrue};
+ghost use Rattle.mix_base.specs.Names.{is_name};
 ghost use Rattle.mix_model.specs.Values.{is_canvas};
 ghost use Rattle.mix_outside.specs.Faults.{Rose};
 ghost use Rattle.mix_outside.specs.Lines.{Whole};
-ghost use Rattle.mix_collection.specs.Fitting.{Fits};
+ghost use Rattle.mix_collection.specs.Fitting.{Fits, SetsNoChannel};
 ghost use Rattle.mix_collection.specs.Collections.{last_in, name_in};
 ghost use Rattle.mix_collection.specs.Read.{Pushes, Registers, Ends};
 ghost use Rattle.mix_collection.specs.Within.{lines_left};
@@ -38,6 +39,8 @@ fn push_lines<C: Source>(
     ensures pushed { C.Tells → Pushes canvas result lines.new.items
         (Whole feed.old.line.items (lines_left feed.old (C.left source.old))) }
     ensures fits { All Fits lines.new.items }
+    ensures unset { All SetsNoChannel lines.new.items }
+    ensures named { IfOk result (λ name. IsTrue (is_name name)) }
     ensures drained { C.Tells → IfOk result (λ read. C.left source.new ≡ []) }
     ensures later { C.faults source.old ≤ C.faults source.new }
     ensures cause { result ≡ Err CollectionFault.Failed →
@@ -64,6 +67,8 @@ pub fn read_registry<C: Source>(
     ensures registry { C.Tells → Registers canvas result
         (Whole feed.old.line.items (lines_left feed.old (C.left source.old))) }
     ensures fits { IfOk result (λ registry. All Fits registry.lines) }
+    ensures unset { IfOk result (λ registry. All SetsNoChannel registry.lines) }
+    ensures named { IfOk result (λ registry. IsTrue (is_name registry.program)) }
     ensures drained { C.Tells → IfOk result (λ read. C.left source.new ≡ []) }
     ensures later { C.faults source.old ≤ C.faults source.new }
     ensures cause { result ≡ Err CollectionFault.Failed →
@@ -91,6 +96,7 @@ fn read_program<C: Source>(
 ) -> Result<Name, CollectionFault>
     ensures program { C.Tells → Ends result feed.old.line.items
         (lines_left feed.old (C.left source.old)) }
+    ensures named { IfOk result (λ name. IsTrue (is_name name)) }
     ensures drained { C.Tells → IfOk result (λ read. C.left source.new ≡ []) }
     ensures later { C.faults source.old ≤ C.faults source.new }
     ensures cause { result ≡ Err CollectionFault.Failed →

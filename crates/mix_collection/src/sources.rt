@@ -3,7 +3,7 @@ ghost use Rattle.std.specs.Prelude.{◌≡◌, IfOk, IfSome, IsTrue, option_and_
 ghost use Rattle.mix_base.specs.Json.{as_obj};
 ghost use Rattle.mix_model.specs.Rows.{is_input};
 ghost use Rattle.mix_model.specs.Values.{is_canvas, are_settings};
-ghost use Rattle.mix_collection.specs.Fitting.{Fits};
+ghost use Rattle.mix_collection.specs.Fitting.{Fits, SetsNoChannel};
 ghost use Rattle.mix_collection.specs.Collections.{three_items, kind_from, settings_from};
 ghost use Rattle.mix_collection.specs.Collections.{input_from, item_from, where_it, is_bare};
 ghost use Rattle.mix_collection.specs.Collections.{scene_in, input_in, item_in, line_in};
@@ -20,6 +20,7 @@ use std::alloc::Global;
 fn scene_in(alloc: Global, line: &[u8]) -> Result<Option<Line>, NoMemory>
     ensures value { IfOk result (λ scene. scene ≡ scene_in line.now) }
     ensures fits { IfOk result (λ scene. IfSome scene Fits) }
+    ensures unset { IfOk result (λ scene. IfSome scene SetsNoChannel) }
 {
     match name_in(alloc, b"scene", line)? {
         Some(name) => Ok(Some(Line::Scene { name })),
@@ -69,6 +70,7 @@ fn input_of(
     requires canvas { IsTrue (is_canvas canvas) }
     ensures value { IfOk result (λ input. input ≡ input_from canvas (id.now, name.now, given.now)) }
     ensures fits { IfOk result (λ input. IfSome input Fits) }
+    ensures unset { IfOk result (λ input. IfSome input SetsNoChannel) }
 {
     let Some(kind) = kind_from(id) else {
         return Ok(None);
@@ -102,6 +104,7 @@ fn input_from(alloc: Global, canvas: (u32, u32), items: &[Json]) -> Result<Optio
     ensures value { IfOk result
         (λ input. input ≡ option_and_then (input_from canvas) (three_items items.now)) }
     ensures fits { IfOk result (λ input. IfSome input Fits) }
+    ensures unset { IfOk result (λ input. IfSome input SetsNoChannel) }
 {
     match items {
         [id, name, given] => input_of(alloc, canvas, id, name, given),
@@ -114,6 +117,7 @@ fn input_in(alloc: Global, canvas: (u32, u32), line: &[u8]) -> Result<Option<Lin
     requires canvas { IsTrue (is_canvas canvas) }
     ensures value { IfOk result (λ input. input ≡ input_in canvas line.now) }
     ensures fits { IfOk result (λ input. IfSome input Fits) }
+    ensures unset { IfOk result (λ input. IfSome input SetsNoChannel) }
 {
     match list_behind(alloc, b"input", line)? {
         Some(items) => {
@@ -142,6 +146,7 @@ fn bare_in(value: &Json) -> Option<&JsonObj>
 fn item_of(parent: &Json, child: &Json, options: &Json) -> Option<Line>
     ensures value { result ≡ item_from (parent.now, child.now, options.now) }
     ensures fits { IfSome result Fits }
+    ensures unset { IfSome result SetsNoChannel }
 {
     let parent = name_from(parent)?;
     let Some(child) = name_from(child) else {
@@ -166,6 +171,7 @@ fn item_of(parent: &Json, child: &Json, options: &Json) -> Option<Line>
 fn item_from(items: &[Json]) -> Option<Line>
     ensures value { result ≡ option_and_then item_from (three_items items.now) }
     ensures fits { IfSome result Fits }
+    ensures unset { IfSome result SetsNoChannel }
 {
     match items {
         [parent, child, options] => item_of(parent, child, options),
@@ -177,6 +183,7 @@ fn item_from(items: &[Json]) -> Option<Line>
 fn item_in(alloc: Global, line: &[u8]) -> Result<Option<Line>, NoMemory>
     ensures value { IfOk result (λ item. item ≡ item_in line.now) }
     ensures fits { IfOk result (λ item. IfSome item Fits) }
+    ensures unset { IfOk result (λ item. IfSome item SetsNoChannel) }
 {
     match list_behind(alloc, b"item", line)? {
         Some(items) => {
@@ -195,6 +202,7 @@ pub fn line_in(alloc: Global, canvas: (u32, u32), line: &[u8]) -> Result<Option<
     requires canvas { IsTrue (is_canvas canvas) }
     ensures value { IfOk result (λ found. found ≡ line_in canvas line.now) }
     ensures fits { IfOk result (λ found. IfSome found Fits) }
+    ensures unset { IfOk result (λ found. IfSome found SetsNoChannel) }
 {
     if let Some(scene) = scene_in(alloc, line)? {
         return Ok(Some(scene));

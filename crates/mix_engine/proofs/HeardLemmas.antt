@@ -1,6 +1,9 @@
--- What was heard can be said again: at once only Identified is said, and a request has an id.
-use Rattle.std.proofs.Common.{ℕ, List, length, IsTrue, is_some, refl, codes, not}
-use Rattle.std.proofs.Common.{nat_lt, Option, Result, Ok, Err}
+-- What was heard: it can be said again, and is done as the outcome of the message says.
+use Rattle.std.proofs.Common.{◌≡◌, ◌∙◌, ℕ, List, length, IsTrue, is_some, refl, codes, not, ap, subst}
+use Rattle.std.proofs.Common.{nat_lt, option_map, Option, Some, None, Result, Ok, Err}
+use Rattle.std.specs.Option.{option_map_or}
+use Rattle.mix_audience.specs.Listeners.{Listener, listener_at}
+use Rattle.mix_base.specs.declared.no_memory.NoMemory.{NoMemory}
 use Rattle.mix_base.specs.Json.{Object}
 use Rattle.mix_json.specs.Fields.{◌>>=◌, refused_if, or_status}
 use Rattle.mix_model.specs.declared.ask.Ask as ask
@@ -17,7 +20,14 @@ use Rattle.mix_session.specs.Hear.{logs_in, is_version, message_of, most_bytes}
 use Rattle.mix_session.specs.Fields.{whole_at, text_at, object_at}
 use Rattle.mix_session.specs.Close.{unsupported_version, not_decoded, unknown_op}
 use Rattle.mix_session.specs.Op.{op_of, in_turn}
-use Rattle.mix_engine.specs.Mixings.{IsPlain}
+use Rattle.mix_engine.specs.declared.step_answer.StepAnswer.{StepAnswer}
+use Rattle.mix_engine.specs.Connections.{conn_at}
+use Rattle.mix_engine.specs.Mixings.{IsMixing, Mixed}
+use Rattle.mix_engine.specs.Step.{acting, heard_from}
+use Rattle.mix_engine.specs.StepAnswers.{IsOpen, IsPlain, Steps}
+use Rattle.mix_engine.proofs.Stepping.{open_steps}
+
+-- ---- at once only Identified is said, and a request has an id
 
 -- where there is no fault
 abbrev IfNoFault : {A : Type 0} → (A → Type 0) → Result A ℕ → Type 0
@@ -86,3 +96,37 @@ hears_plainly secret challenge mask (Text text) =
     by_has (text_heard (expected_of secret challenge) mask text)
     (text_has (expected_of secret challenge) mask text)
 hears_plainly secret challenge mask (Binary bytes) = tt
+
+-- so is what an open connection says
+pub plain_heard : (secret : Option (List ℕ × List ℕ)) (message : Message)
+    (found : Option Listener) (heard : Heard) →
+    Some heard ≡ option_map (λ (l : Listener). hear secret l.challenge l.mask message) found →
+    IsPlain heard
+plain_heard secret message None heard is = cc
+plain_heard secret message (Some l) heard is =
+    let same : hear secret l.challenge l.mask message ≡ heard = cc in
+    subst IsPlain same (hears_plainly secret l.challenge l.mask message)
+
+-- ---- what an open connection said is done
+
+pub heard_steps : (before m : Mixed) (conn : ℕ) (message : Message) (heard : Heard)
+    (result : Result StepAnswer NoMemory) (new : Mixed) → before ≡ m → IsMixing before →
+    IsOpen m conn → Some heard ≡ option_map
+    (λ (l : Listener). hear before.mixer.secret l.challenge l.mask message)
+    (listener_at conn before.listeners) →
+    Steps result before new (heard_from before.mixer conn heard) →
+    Steps result m new (acting m.mixer conn (conn_at conn m.mixer.conns)
+    (λ c. heard_from m.mixer conn (hear m.mixer.secret c.challenge c.mask message)))
+heard_steps before m conn message heard result new seen sound there is steps =
+    let said : Some heard ≡ Some (hear m.mixer.secret there.one.challenge there.one.mask message)
+    = is ∙ ap (λ (k : Mixed). option_map
+    (λ (l : Listener). hear k.mixer.secret l.challenge l.mask message)
+    (listener_at conn k.listeners)) seen ∙ ap (option_map
+    (λ (l : Listener). hear m.mixer.secret l.challenge l.mask message)) there.found in
+    let same : heard ≡ hear m.mixer.secret there.one.challenge there.one.mask message
+    = ap (λ o. option_map_or (λ (h : Heard). h) o heard) said in
+    open_steps m conn result new
+    (λ c. heard_from m.mixer conn (hear m.mixer.secret c.challenge c.mask message))
+    (subst IsMixing seen sound) there
+    (subst (λ h. Steps result m new (heard_from m.mixer conn h)) same
+    (subst (λ (k : Mixed). Steps result k new (heard_from k.mixer conn heard)) seen steps))

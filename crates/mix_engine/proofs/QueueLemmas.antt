@@ -1,33 +1,32 @@
 -- What waits for a connection is its queue, and the queue is what the history tells.
-use Rattle.std.proofs.Common.{◌≡◌, ℕ, Bool, true, false, cond, ◌||◌, ◌==◌, not, nat_le}
-use Rattle.std.proofs.Common.{List, [], ◌∷◌, ◌++◌, map, filter, length, Option, Some, None}
+use Rattle.std.proofs.Common.{◌≡◌, ℕ, Bool, true, false, cond, ◌||◌, ◌==◌, not}
+use Rattle.std.proofs.Common.{List, [], ◌∷◌, ◌++◌, map, filter, Option, Some, None}
 use Rattle.std.proofs.Common.{refl, sym, ap, ◌∙◌, subst, append_assoc, append-nil}
 use Rattle.std.specs.List.{flat_map, list_any}
 use Rattle.std.specs.Option.{option_map, option_map_or}
 use Rattle.std.proofs.lemmas.Bool.{eqb-true, false_from_ne_true, both_ways}
 use Rattle.std.proofs.lemmas.Grind.{flat_map-append}
-use Rattle.mix_base.specs.Limits.{standard}
+use Rattle.mix_audience.specs.Acting.{taken_by}
+use Rattle.mix_audience.specs.Listeners.{Listener, is_listener, is_other, listener_at, new_listener}
+use Rattle.mix_audience.specs.Listeners.{with_mask, queued, ended, waiting_for, taken_of}
 use Rattle.mix_fanout.specs.Lanes.{is_but}
 use Rattle.mix_model.specs.declared.event.Event.{Event}
-use Rattle.mix_model.specs.declared.said.Said.TheVariants.{Event as OfEvent}
-use Rattle.mix_engine.specs.declared.attendance.Attendance.{Attendance}
-use Rattle.mix_engine.specs.declared.attendance.Attendance.TheVariants.{Same, Joins, Identifies}
-use Rattle.mix_engine.specs.declared.attendance.Attendance.TheVariants.{Leaves}
-use Rattle.mix_engine.specs.declared.own.Own.{Own}
-use Rattle.mix_engine.specs.declared.own.Own.TheVariants as own
+use Rattle.mix_events.specs.declared.said.Said.TheVariants.{Event as OfEvent}
+use Rattle.mix_engine.specs.declared.heading.Heading.{Heading}
+use Rattle.mix_engine.specs.declared.heading.Heading.TheVariants as heading
 use Rattle.mix_engine.specs.Answers.{told_by}
-use Rattle.mix_engine.specs.Connections.{conn_at, is_conn}
-use Rattle.mix_engine.specs.Listeners.{Listener, conn_of, is_listener, is_other, listener_at}
-use Rattle.mix_engine.specs.Listeners.{new_listener, with_mask, attended, actor_of, queued, ended}
-use Rattle.mix_engine.specs.Listeners.{listening, waiting_of, waiting_for, taken_of, taken_or}
-use Rattle.mix_engine.specs.Listeners.{taken_by, told_to, speech}
-use Rattle.mix_engine.specs.Mixer.{Mixer}
-use Rattle.mix_engine.specs.Outcomes.{Outcome}
-use Rattle.mix_engine.specs.Queues.{queue_after, queue_from, queue, IsOfActor}
+use Rattle.mix_engine.specs.Connections as att
+use Rattle.mix_engine.specs.Connections.{Attendance, conn_at}
+use Rattle.mix_engine.specs.Headings.{actor_of}
+use Rattle.mix_engine.specs.Mixer.{Connection}
+use Rattle.mix_engine.specs.Mixings.{Mixed, conn_of, attended, listening}
+use Rattle.mix_engine.specs.Outcomes.{Outcome, told_of}
+use Rattle.mix_engine.specs.Queues.{queue_after, queue_from, queue}
 use Rattle.mix_engine.specs.Replayed.{IsQueued}
-use Rattle.mix_engine.specs.Told.{Happened, happened, taken, is_to, is_entry_of, since, told_at}
-use Rattle.mix_engine.specs.Told as told
-use Rattle.mix_engine.proofs.Lookups.{find_under}
+use Rattle.mix_engine.specs.StepAnswers.{speech, told_to}
+use Rattle.mix_engine.specs.Told.{Happened, happened, taken, takes, is_entry_of, since, told_at}
+use Rattle.mix_engine.proofs.Actors.{IsOfActor}
+use Rattle.mix_engine.proofs.Listening.{ended_if, found_conn, queued_if}
 
 queue_on : (number : ℕ) (q : List Event) (hs : List Happened) (h : Happened) →
     queue_from number q (hs ++ h ∷ []) ≡ queue_after number (queue_from number q hs) h
@@ -90,51 +89,35 @@ told_is number before h = ap (λ events. map OfEvent events ++ h.said)
     (append-nil (taken number h))
     ∙ ap (λ events. events ++ taken number h) (sym (queue_since number before)))
 
--- who acts is the one whose reply it is
-actor_is : (o : Own) (number : ℕ) → is_but (actor_of o) number ≡ is_to number o
-actor_is own.Full number = refl
-actor_is (own.Gone conn) number = refl
-actor_is (own.Left conn) number = refl
-actor_is (own.Told conn) number = refl
-actor_is (own.Closed conn code) number = refl
-actor_is (own.Frame conn recording) number = refl
-actor_is own.NoFrame number = refl
-actor_is (own.Block conn recording) number = refl
-actor_is (own.FrameGone conn) number = refl
-actor_is own.NoSuchFrame number = refl
-actor_is (own.Destroyed serial) number = refl
-actor_is own.Nothing number = refl
-
-found : (b : Bool) (l k : Listener) (here there : Option Listener)
-    (waits : Listener → List Event) → (b ≡ true → k.waiting ≡ waits l) →
-    waiting_of there ≡ option_map_or waits here [] →
-    waiting_of (cond b (Some k) there) ≡ option_map_or waits (cond b (Some l) here) []
-found true l k here there waits is more = is refl
-found false l k here there waits is more = more
-
 -- what waits after a change of each listener that leaves the numbers as they are
+waits_one : (number : ℕ) (f : Listener → Listener) (waits : Listener → List Event) (l : Listener)
+    (b : Bool) (here there : Option Listener) → (b ≡ true → (f l).waiting ≡ waits l) →
+    option_map_or (λ (k : Listener). k.waiting) there [] ≡ option_map_or waits here [] →
+    option_map_or (λ (k : Listener). k.waiting) (cond b (Some (f l)) there) []
+    ≡ option_map_or waits (cond b (Some l) here) []
+waits_one number f waits l true here there is more = is refl
+waits_one number f waits l false here there is more = more
+
 waits_mapped : (number : ℕ) (f : Listener → Listener) (waits : Listener → List Event) →
     ((l : Listener) → (f l).number ≡ l.number) →
     ((l : Listener) → l.number ≡ number → (f l).waiting ≡ waits l) → (ls : List Listener) →
     waiting_for number (map f ls) ≡ option_map_or waits (listener_at number ls) []
 waits_mapped number f waits same is [] = refl
 waits_mapped number f waits same is (l ∷ ls) =
-    ap (λ n. waiting_of (cond (n == number) (Some (f l)) (listener_at number (map f ls)))) (same l)
-    ∙ found (is_listener number l) l (f l) (listener_at number ls) (listener_at number (map f ls))
-    waits (λ e. is l (eqb-true l.number number e)) (waits_mapped number f waits same is ls)
+    ap (λ n. option_map_or (λ (k : Listener). k.waiting)
+    (cond (n == number) (Some (f l)) (listener_at number (map f ls))) []) (same l)
+    ∙ waits_one number f waits l (is_listener number l) (listener_at number ls)
+    (listener_at number (map f ls)) (λ e. is l (eqb-true l.number number e))
+    (waits_mapped number f waits same is ls)
 
 ended_number : (actor : Option ℕ) (l : Listener) → (ended actor l).number ≡ l.number
-ended_number actor l = elim (is_but actor l.number)
-    as (λ b. (let k : Listener = cond b (record l { waiting = [] })
-    (record l { cut = l.cut || nat_le standard.waiting (length l.waiting) }) in k.number) ≡ l.number)
+ended_number actor l = elim (is_but actor l.number) as (λ b. (ended_if b l).number ≡ l.number)
     [ true ↦ refl | false ↦ refl ]
 
 queued_number : (actor : Option ℕ) (events : List Event) (l : Listener) →
     (queued actor events l).number ≡ l.number
 queued_number actor events l = elim (is_but actor l.number)
-    as (λ b. (let k : Listener = cond b l (record l { waiting = l.waiting ++ taken_of l events })
-    in k.number) ≡ l.number)
-    [ true ↦ refl | false ↦ refl ]
+    as (λ b. (queued_if b events l).number ≡ l.number) [ true ↦ refl | false ↦ refl ]
 
 -- whether a number is left out, told of a listener
 but_at : (actor : Option ℕ) (number : ℕ) (b : Bool) (l : Listener) → is_but actor number ≡ b →
@@ -155,21 +138,17 @@ actor_waits actor number ls is =
     waits_mapped number (ended actor) nothing (ended_number actor)
     (λ l same. rw (but_at actor number true l is same) refl) ls ∙ none_waits (listener_at number ls)
 
-all_waits : (listener : Option Listener) →
-    option_map_or (λ (l : Listener). l.waiting) listener [] ≡ waiting_of listener
-all_waits None = refl
-all_waits (Some l) = refl
-
 -- what waits for another stays
 other_waits : (actor : Option ℕ) (number : ℕ) (ls : List Listener) →
     is_but actor number ≡ false → waiting_for number (map (ended actor) ls) ≡ waiting_for number ls
 other_waits actor number ls is =
     waits_mapped number (ended actor) (λ l. l.waiting) (ended_number actor)
-    (λ l same. rw (but_at actor number false l is same) refl) ls ∙ all_waits (listener_at number ls)
+    (λ l same. rw (but_at actor number false l is same) refl) ls
 
 more_waits : (events : List Event) (listener : Option Listener) →
-    option_map_or (λ l. l.waiting ++ taken_of l events) listener []
-    ≡ waiting_of listener ++ taken_or listener events
+    option_map_or (λ (l : Listener). l.waiting ++ taken_of l events) listener []
+    ≡ option_map_or (λ (l : Listener). l.waiting) listener []
+    ++ option_map_or (λ (l : Listener). taken_of l events) listener []
 more_waits events None = refl
 more_waits events (Some l) = refl
 
@@ -184,11 +163,11 @@ other_takes actor events number ls is =
     ∙ more_waits events (listener_at number ls)
 
 -- a connection whose entry it is, is another than one whose entry it isn't
-differs : (conn number : ℕ) (o : Own) → is_to conn o ≡ true → is_to number o ≡ false →
-    (conn == number) ≡ false
-differs conn number o is other = false_from_ne_true (conn == number)
-    (λ e. both_ways (is_to number o) other
-    (subst (λ k. is_to k o ≡ true) (eqb-true conn number e) is))
+differs : (conn number : ℕ) (actor : Option ℕ) → is_but actor conn ≡ true →
+    is_but actor number ≡ false → (conn == number) ≡ false
+differs conn number actor is other = false_from_ne_true (conn == number)
+    (λ e. both_ways (is_but actor number) other
+    (subst (λ k. is_but actor k ≡ true) (eqb-true conn number e) is))
 
 joins_stay : (number : ℕ) (l : Listener) (ls : List Listener) → is_listener number l ≡ false →
     listener_at number (ls ++ l ∷ []) ≡ listener_at number ls
@@ -228,83 +207,89 @@ leaves_stay number conn (l ∷ ls) other =
     (λ e. ap (λ k. k == number) (eqb-true l.number conn e) ∙ other)
 
 -- who comes, goes, or is identified changes nobody else
-others_stay : (number : ℕ) (o : Own) (attendance : Attendance) (ls : List Listener) →
-    IsOfActor attendance o → is_to number o ≡ false →
+others_stay : (number : ℕ) (actor : Option ℕ) (attendance : Attendance) (ls : List Listener) →
+    IsOfActor attendance actor → is_but actor number ≡ false →
     listener_at number (attended attendance ls) ≡ listener_at number ls
-others_stay number o Same ls actor other = refl
-others_stay number o (Joins conn challenge) ls actor other =
-    joins_stay number (new_listener conn challenge) ls (differs conn number o actor other)
-others_stay number o (Identifies conn mask) ls actor other =
-    masks_stay number conn mask ls (differs conn number o actor other)
-others_stay number o (Leaves conn) ls actor other =
-    leaves_stay number conn ls (differs conn number o actor other)
+others_stay number actor att.Same ls is other = refl
+others_stay number actor (att.Joins conn challenge) ls is other =
+    joins_stay number (new_listener conn challenge) ls (differs conn number actor is other)
+others_stay number actor (att.Identifies conn mask) ls is other =
+    masks_stay number conn mask ls (differs conn number actor is other)
+others_stay number actor (att.Leaves conn) ls is other =
+    leaves_stay number conn ls (differs conn number actor is other)
+others_stay number actor (att.Pends conn batches) ls is other = refl
 
 takes_same : (listener : Option Listener) (events : List Event) →
-    told.taken_by (option_map conn_of listener) events ≡ taken_or listener events
+    option_map_or (λ (c : Connection). takes c events) (option_map conn_of listener) []
+    ≡ option_map_or (λ (l : Listener). taken_of l events) listener []
 takes_same None events = refl
 takes_same (Some l) events = refl
 
 -- what a connection takes of an entry is what its listener takes
-pub taken_same : (number : ℕ) (s : Mixer) (o : Outcome) (ls : List Listener) →
-    s.conns ≡ map conn_of ls → taken number (happened s o) ≡ taken_by number ls o.events
-taken_same number s o ls conns =
-    ap (λ l. told.taken_by (conn_at number l) o.events) conns
-    ∙ ap (λ c. told.taken_by c o.events)
-    (find_under (is_conn number) (is_listener number) conn_of (λ l. refl) ls)
-    ∙ takes_same (listener_at number ls) o.events
+pub taken_same : (number : ℕ) (m : Mixed) (o : Outcome) → m.mixer.conns ≡ map conn_of m.listeners →
+    taken number (happened m.mixer o) ≡ taken_by number m.listeners (told_of m.mixer o)
+taken_same number m o conns =
+    ap (λ cs. option_map_or (λ (c : Connection). takes c (told_of m.mixer o)) (conn_at number cs) [])
+    conns
+    ∙ ap (λ c. option_map_or (λ (k : Connection). takes k (told_of m.mixer o)) c [])
+    (found_conn number m.listeners)
+    ∙ takes_same (listener_at number m.listeners) (told_of m.mixer o)
 
 -- what waits after an outcome: nothing for the one that acted, and for another what waited, and then
 -- what it takes
-waits_after : (number : ℕ) (b : Bool) (o : Outcome) (ls : List Listener) →
-    IsOfActor o.attendance o.own → is_to number o.own ≡ b →
-    waiting_for number (listening o ls)
-    ≡ cond b [] (waiting_for number ls ++ taken_by number ls o.events)
-waits_after number true o ls actor is = actor_waits (actor_of o.own) number
-    (map (queued (actor_of o.own) o.events) (attended o.attendance ls))
-    (actor_is o.own number ∙ is)
-waits_after number false o ls actor is = other_waits (actor_of o.own) number
-    (map (queued (actor_of o.own) o.events) (attended o.attendance ls))
-    (actor_is o.own number ∙ is)
-    ∙ other_takes (actor_of o.own) o.events number (attended o.attendance ls)
-    (actor_is o.own number ∙ is)
-    ∙ ap (λ l. waiting_of l ++ taken_or l o.events)
-    (others_stay number o.own o.attendance ls actor is)
+waits_after : (number : ℕ) (b : Bool) (m : Mixed) (o : Outcome) →
+    IsOfActor o.attendance (actor_of o.heading) → is_but (actor_of o.heading) number ≡ b →
+    waiting_for number (listening m.mixer o m.listeners)
+    ≡ cond b [] (waiting_for number m.listeners
+    ++ taken_by number m.listeners (told_of m.mixer o))
+waits_after number true m o actor is = actor_waits (actor_of o.heading) number
+    (map (queued (actor_of o.heading) (told_of m.mixer o)) (attended o.attendance m.listeners)) is
+waits_after number false m o actor is = other_waits (actor_of o.heading) number
+    (map (queued (actor_of o.heading) (told_of m.mixer o)) (attended o.attendance m.listeners)) is
+    ∙ other_takes (actor_of o.heading) (told_of m.mixer o) number
+    (attended o.attendance m.listeners) is
+    ∙ ap (λ l. option_map_or (λ (k : Listener). k.waiting) l []
+    ++ option_map_or (λ (k : Listener). taken_of k (told_of m.mixer o)) l [])
+    (others_stay number (actor_of o.heading) o.attendance m.listeners actor is)
 
 -- what waits for each connection stays its queue
-pub queued_more : (s : Mixer) (o : Outcome) (ls : List Listener) (hs : List Happened) →
-    s.conns ≡ map conn_of ls → IsOfActor o.attendance o.own → IsQueued hs ls →
-    IsQueued (hs ++ happened s o ∷ []) (listening o ls)
-queued_more s o ls hs conns actor waits number =
-    waits_after number (is_to number o.own) o ls actor refl
-    ∙ ap (λ queue'. cond (is_to number o.own) [] (queue' ++ taken_by number ls o.events))
-    (waits number)
-    ∙ ap (λ events. cond (is_to number o.own) [] (queue number hs ++ events))
-    (sym (taken_same number s o ls conns))
-    ∙ sym (queue_more number hs (happened s o))
+pub queued_more : (m : Mixed) (o : Outcome) (hs : List Happened) →
+    m.mixer.conns ≡ map conn_of m.listeners → IsOfActor o.attendance (actor_of o.heading) →
+    IsQueued hs m.listeners →
+    IsQueued (hs ++ happened m.mixer o ∷ []) (listening m.mixer o m.listeners)
+queued_more m o hs conns actor waits number =
+    waits_after number (is_but (actor_of o.heading) number) m o actor refl
+    ∙ ap (λ q. cond (is_but (actor_of o.heading) number) []
+    (q ++ taken_by number m.listeners (told_of m.mixer o))) (waits number)
+    ∙ ap (λ events. cond (is_but (actor_of o.heading) number) [] (queue number hs ++ events))
+    (sym (taken_same number m o conns))
+    ∙ sym (queue_more number hs (happened m.mixer o))
 
-told_same : (number : ℕ) (before : List Happened) (s : Mixer) (o : Outcome) (ls : List Listener) →
-    s.conns ≡ map conn_of ls → IsQueued before ls →
-    told_to number ls o ≡ told_at number before (happened s o)
-told_same number before s o ls conns waits =
-    ap (λ queue'. map OfEvent (queue' ++ taken_by number ls o.events) ++ o.said) (waits number)
+told_same : (number : ℕ) (before : List Happened) (m : Mixed) (o : Outcome) →
+    m.mixer.conns ≡ map conn_of m.listeners → IsQueued before m.listeners →
+    told_to number m o ≡ told_at number before (happened m.mixer o)
+told_same number before m o conns waits =
+    ap (λ q. map OfEvent (q ++ taken_by number m.listeners (told_of m.mixer o)) ++ o.said)
+    (waits number)
     ∙ ap (λ events. map OfEvent (queue number before ++ events) ++ o.said)
-    (sym (taken_same number s o ls conns))
-    ∙ sym (told_is number before (happened s o))
+    (sym (taken_same number m o conns))
+    ∙ sym (told_is number before (happened m.mixer o))
 
 -- what is told with a reply is what the history tells
-pub speech_is : (reply : Own) (before : List Happened) (s : Mixer) (o : Outcome)
-    (ls : List Listener) → s.conns ≡ map conn_of ls → IsQueued before ls →
-    speech reply ls o ≡ told_by reply before (happened s o)
-speech_is own.Full before s o ls conns waits = refl
-speech_is (own.Gone conn) before s o ls conns waits = refl
-speech_is (own.Left conn) before s o ls conns waits = refl
-speech_is (own.Told conn) before s o ls conns waits = told_same conn before s o ls conns waits
-speech_is (own.Closed conn code) before s o ls conns waits =
-    told_same conn before s o ls conns waits
-speech_is (own.Frame number recording) before s o ls conns waits = refl
-speech_is own.NoFrame before s o ls conns waits = refl
-speech_is (own.Block number recording) before s o ls conns waits = refl
-speech_is (own.FrameGone number) before s o ls conns waits = refl
-speech_is own.NoSuchFrame before s o ls conns waits = refl
-speech_is (own.Destroyed serial) before s o ls conns waits = refl
-speech_is own.Nothing before s o ls conns waits = refl
+pub speech_is : (reply : Heading) (before : List Happened) (m : Mixed) (o : Outcome) →
+    m.mixer.conns ≡ map conn_of m.listeners → IsQueued before m.listeners →
+    speech reply m o ≡ told_by reply before (happened m.mixer o)
+speech_is heading.Full before m o conns waits = refl
+speech_is (heading.Gone conn) before m o conns waits = refl
+speech_is (heading.Left conn) before m o conns waits = refl
+speech_is (heading.Told conn) before m o conns waits = told_same conn before m o conns waits
+speech_is (heading.Closed conn code) before m o conns waits =
+    told_same conn before m o conns waits
+speech_is (heading.Frame number recording) before m o conns waits = refl
+speech_is heading.NoFrame before m o conns waits = refl
+speech_is (heading.Block number recording) before m o conns waits = refl
+speech_is (heading.FrameGone number) before m o conns waits = refl
+speech_is heading.NoSuchFrame before m o conns waits = refl
+speech_is (heading.Destroyed serial) before m o conns waits = refl
+speech_is heading.Nothing before m o conns waits = refl
+speech_is heading.NotBuilt before m o conns waits = refl

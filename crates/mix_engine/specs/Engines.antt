@@ -4,14 +4,13 @@ use Rattle.std.specs.Prelude.{◌-◌, ◌^◌, min}
 use Rattle.std.specs.Prelude.{Option, Some, None, sum_by, Result, Err, if◌then◌else◌}
 use Rattle.mix_base.specs.declared.limits.Limits.{Limits}
 use Rattle.mix_base.specs.declared.numbers.PassNo.{PassNo}
-use Rattle.mix_base.specs.Limits.{standard}
 use Rattle.mix_model.specs.declared.action.Action.{Action}
 use Rattle.mix_model.specs.declared.action.Entry.{Entry}
 use Rattle.mix_script.specs.Lines.{line_text}
 use Rattle.mix_engine.specs.declared.fault.ActFault.{ActFault}
 use Rattle.mix_engine.specs.declared.fault.ActFault.TheVariants.{NoMemory, HistoryFull}
 use Rattle.mix_engine.specs.declared.fault.Full.{Full}
-use Rattle.mix_engine.specs.declared.setup.Setup.{Setup}
+use Rattle.mix_studio.specs.declared.setup.Setup.{Setup}
 use Rattle.mix_engine.specs.Mixer.{Mixer, start_of}
 use Rattle.mix_engine.specs.Answers.{state_after}
 use Rattle.mix_engine.specs.Built.{is_built}
@@ -99,7 +98,3 @@ TellsNumbers (HistoryFull turns bytes) e =
 abbrev pub refused : ActFault → Action → EngineModel → EngineModel
 refused NoMemory action e = e
 refused (HistoryFull turns bytes) action e = with_full action e
-
--- the limits are those of every mixer that runs, but the history may be shorter
-abbrev pub are_limits : Limits → Bool
-are_limits limits = nat_le limits.turns standard.turns && nat_le limits.bytes standard.bytes

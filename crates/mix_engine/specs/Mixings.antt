@@ -1,32 +1,28 @@
--- The mixer as the code keeps it.
-use Rattle.std.specs.Prelude.{◌≡◌, ℕ, ◌<◌, ◌^◌, List, All, Option, Some, None}
-use Rattle.std.specs.Prelude.{map, if◌then◌else◌, IsTrue, is_some, false}
+-- The mixer as the code keeps it: the whole state, and the open connections with what waits for each.
+use Rattle.std.specs.Prelude.{◌≡◌, ℕ, true, List, [], ◌∷◌, ◌++◌, All, Option, Some, None}
+use Rattle.std.specs.Prelude.{map, filter, length, if◌then◌else◌}
+use Rattle.mix_audience.specs.Listeners.{AudienceModel, Listener, new_listener, with_mask, is_other}
+use Rattle.mix_audience.specs.Listeners.{queued, ended}
 use Rattle.mix_events.specs.Sayable.{IsSayableEvent}
-use Rattle.mix_model.specs.Opening.{no_notes}
-use Rattle.mix_model.specs.State.{GraphState}
-use Rattle.mix_model.specs.WholeShape.{StudioShape}
-use Rattle.mix_model.specs.declared.said.Said.TheVariants.{Identified}
-use Rattle.mix_session.specs.declared.heard.Heard.{Heard}
-use Rattle.mix_session.specs.declared.heard.Heard.TheVariants.{Say, Ask, Batch, Close}
-use Rattle.mix_engine.specs.declared.still.Still.{Still}
-use Rattle.mix_engine.specs.Answers.{is_due}
-use Rattle.mix_engine.specs.Built.{is_heard_built, IsDeafMask}
-use Rattle.mix_engine.specs.Listeners.{Listener, conn_of, listening}
-use Rattle.mix_engine.specs.Members.{Gathered}
+use Rattle.mix_model.specs.declared.notes.Notes.{Notes}
+use Rattle.mix_model.specs.State.{StudioState}
+use Rattle.mix_model.specs.WholeShape.{StateShape}
+use Rattle.mix_engine.specs.Connections.{Attendance, Same, Joins, Identifies, Leaves, Pends}
+use Rattle.mix_engine.specs.Headings.{actor_of, is_unbuilt}
 use Rattle.mix_engine.specs.Mixer.{Mixer, Connection}
-use Rattle.mix_engine.specs.Outcomes.{Outcome}
-use Rattle.mix_engine.specs.Scenery.{HasScenes}
-use Rattle.mix_engine.specs.Step.{heard_from, after}
-use Rattle.mix_engine.specs.Stills.{studio_of}
+use Rattle.mix_engine.specs.Outcomes.{Outcome, told_of}
+use Rattle.mix_engine.specs.Step.{after, is_deaf}
 
--- the whole state of these parts: so far nobody holds, watches or stops anything
-abbrev pub mixer_of : Still → GraphState → Option (List ℕ × List ℕ) → List Connection → ℕ → Mixer
-mixer_of still g secret conns next_conn = record {
-  studio = studio_of still g;
-  notes = no_notes;
-  secret = secret;
-  conns = conns;
-  next_conn = next_conn;
+-- a connection as the state has it: there only the number of what waits counts. So far no batch is
+-- pending
+abbrev pub conn_of : Listener → Connection
+conn_of l = record {
+  number = l.number;
+  challenge = l.challenge;
+  mask = l.mask;
+  waits = length l.waiting;
+  cut = l.cut;
+  batches = [];
 }
 
 -- the whole state, and the open connections with what waits for each
@@ -34,52 +30,51 @@ pub record Mixed : Type 0 where
   pub mixer : Mixer
   pub listeners : List Listener
 
-abbrev pub mixed_of : Still → GraphState → Gathered → ℕ → Mixed
-mixed_of still g audience next_conn = record {
-  mixer = mixer_of still g audience.secret (map conn_of audience.listeners) next_conn;
+abbrev pub mixed_of : StudioState → Notes → AudienceModel → ℕ → Mixed
+mixed_of studio notes audience next_conn = record {
+  mixer = record {
+    studio = studio;
+    notes = notes;
+    secret = audience.secret;
+    conns = map conn_of audience.listeners;
+    next_conn = next_conn;
+  };
   listeners = audience.listeners;
 }
 
--- what an outcome leaves
+-- the open connections after an action, telling aside
+abbrev pub attended : Attendance → List Listener → List Listener
+attended Same listeners = listeners
+attended (Joins conn challenge) listeners = listeners ++ new_listener conn challenge ∷ []
+attended (Identifies conn mask) listeners = map (with_mask conn mask) listeners
+attended (Leaves conn) listeners = filter (is_other conn) listeners
+attended (Pends conn batches) listeners = listeners
+
+-- and with what is told them
+abbrev pub listening : Mixer → Outcome → List Listener → List Listener
+listening s o listeners = map (ended (actor_of o.heading))
+    (map (queued (actor_of o.heading) (told_of s o)) (attended o.attendance listeners))
+
+-- what an outcome leaves. What isn't built leaves all as it is
 abbrev pub mixed_after : Mixed → Outcome → Mixed
 mixed_after m o = record {
   mixer = after m.mixer o;
-  listeners = listening o m.listeners;
+  listeners = if is_unbuilt o.heading then m.listeners
+      else listening m.mixer o m.listeners;
 }
 
--- as it was, where nothing was done
-abbrev pub mixed_after_any : Mixed → Option Outcome → Mixed
-mixed_after_any m None = m
-mixed_after_any m (Some o) = mixed_after m o
+-- a mask that is deaf to activity, or none
+abbrev pub IsDeafMask : Option ℕ → Type 0
+IsDeafMask None = Unit {0}
+IsDeafMask (Some mask) = is_deaf mask ≡ true
 
--- an open connection: its number was given, it wants no event of activity, and what waits for it can
--- be said
-pub record IsListener (next_conn : ℕ) (l : Listener) : Type 0 where
-  pub given : l.number < next_conn
+-- an open connection: it wants no event of activity, and what waits for it can be said
+pub record IsListener (l : Listener) : Type 0 where
   pub deaf : IsDeafMask l.mask
   pub sayable : All IsSayableEvent l.waiting
 
--- the connections and the scenes are as they should be, the studio has its shape, and the clock is
--- kept once more
-pub record IsMixing (still : Still) (g : GraphState) (clock : ℕ) (listeners : List Listener)
-    (next_conn : ℕ) : Type 0 where
-  pub listeners_are : All (IsListener next_conn) listeners
-  pub scenes : HasScenes g
-  pub program : still.program < 2 ^ 48
-  pub shape : StudioShape (studio_of still g)
-  pub clock_is : clock ≡ g.clock
-
--- no batch of anybody is due
-abbrev pub IsIdle : Mixer → Type 0
-IsIdle s = (conn : ℕ) → is_due s conn ≡ false
-
--- what comes of a message of an open connection that isn't cut, and nothing where that isn't built
-abbrev pub comes_of : Mixer → ℕ → Heard → Option Outcome
-comes_of s conn heard = if is_heard_built s heard then Some (heard_from s conn heard) else None
-
--- what is said at once is Identified, and a request has an id
-abbrev pub IsPlain : Heard → Type 0
-IsPlain (Say said mask) = said ≡ Identified
-IsPlain (Ask ask) = IsTrue (is_some ask.id)
-IsPlain (Batch batch) = Unit {0}
-IsPlain (Close code) = Unit {0}
+-- the state has its shape, its connections are those that listen, and these are as they should be
+pub record IsMixing (m : Mixed) : Type 0 where
+  pub shape : StateShape m.mixer
+  pub conns : m.mixer.conns ≡ map conn_of m.listeners
+  pub listeners : All IsListener m.listeners

@@ -1,11 +1,7 @@
 -- What waits for a connection, as a queue that each entry of the history changes.
-use Rattle.std.specs.Prelude.{◌≡◌, ℕ, List, [], ◌∷◌, ◌++◌, true, if◌then◌else◌}
+use Rattle.std.specs.Prelude.{ℕ, List, [], ◌∷◌, ◌++◌, if◌then◌else◌}
 use Rattle.mix_model.specs.declared.event.Event.{Event}
-use Rattle.mix_engine.specs.declared.attendance.Attendance.{Attendance}
-use Rattle.mix_engine.specs.declared.attendance.Attendance.TheVariants.{Same, Joins, Identifies}
-use Rattle.mix_engine.specs.declared.attendance.Attendance.TheVariants.{Leaves}
-use Rattle.mix_engine.specs.declared.own.Own.{Own}
-use Rattle.mix_engine.specs.Told.{Happened, taken, is_entry_of, is_to}
+use Rattle.mix_engine.specs.Told.{Happened, taken, is_entry_of}
 
 -- an entry of the connection itself empties its queue, since it is told all that waits; any other
 -- puts the events at the end that the connection takes
@@ -20,10 +16,3 @@ queue_from number queue (h ∷ hs) = queue_from number (queue_after number queue
 -- the queue after a history
 abbrev pub queue : ℕ → List Happened → List Event
 queue number hs = queue_from number [] hs
-
--- who comes, goes, or is identified is the one whose entry it is
-abbrev pub IsOfActor : Attendance → Own → Type 0
-IsOfActor Same own = Unit {0}
-IsOfActor (Joins conn challenge) own = is_to conn own ≡ true
-IsOfActor (Identifies conn mask) own = is_to conn own ≡ true
-IsOfActor (Leaves conn) own = is_to conn own ≡ true

@@ -1,105 +1,99 @@
--- Requests: what each reads, in which order its faults are looked for, and what it leaves.
-use Rattle.std.specs.Prelude.{ℕ, List, [], ◌∷◌, codes, bytes_eq}
-use Rattle.std.specs.Prelude.{Option, Some, None, Result, Ok, Err, unwrap_or, if◌then◌else◌}
-use Rattle.mix_base.specs.declared.json.Json.{Json}
+-- Requests: the one table of the lines of all crates, and what the connection is told.
+use Rattle.std.specs.Prelude.{◌≡◌, ℕ, List, [], ◌∷◌, Option, Some, None, Result, Ok, Err}
+use Rattle.std.specs.Prelude.{option_map, unwrap_or}
+use Rattle.mix_base.specs.declared.no_memory.NoMemory.{NoMemory}
 use Rattle.mix_model.specs.declared.ask.Ask.{Ask}
 use Rattle.mix_model.specs.declared.ask.Done.{Done}
 use Rattle.mix_model.specs.declared.body.Body.{Body}
 use Rattle.mix_model.specs.declared.event.Event.{Event}
 use Rattle.mix_model.specs.declared.notes.Notes.{Notes}
-use Rattle.mix_model.specs.declared.said.Said.TheVariants.{Response}
+use Rattle.mix_events.specs.declared.said.Said.TheVariants.{Response}
 use Rattle.mix_model.specs.State.{StudioState}
-use Rattle.mix_engine.specs.Known.{is_known}
-use Rattle.mix_engine.specs.declared.own.Own.TheVariants.{Told}
-use Rattle.mix_engine.specs.declared.request_type.RequestType.{RequestType}
-use Rattle.mix_engine.specs.declared.request_type.RequestType.TheVariants as type
+use Rattle.mix_requests.specs.declared.caller.Caller.{Caller}
+use Rattle.mix_requests.specs.declared.caller.Mode.TheVariants.{Single}
+use Rattle.mix_requests.specs.declared.request_type.RequestType.{RequestType}
+use Rattle.mix_requests.specs.declared.request_type.RequestType.TheVariants.{Scene, Item, Input}
+use Rattle.mix_requests.specs.declared.request_type.RequestType.TheVariants.{Output, Unknown}
+use Rattle.mix_requests.specs.Effects.{Effect}
+use Rattle.mix_requests.specs.Outcomes.{done_with}
+use Rattle.mix_requests.specs.Table.{type_of}
+use Rattle.mix_studio.specs.Studios.{StudioModel}
+use Rattle.mix_req_scenes.specs.Scenes as scenes
+use Rattle.mix_req_inputs.specs.Inputs as inputs
+use Rattle.mix_req_outputs.specs.Outputs as outputs
+use Rattle.mix_engine.specs.declared.heading.Heading.TheVariants.{Told}
 use Rattle.mix_engine.specs.Mixer.{Mixer}
-use Rattle.mix_engine.specs.Effects.{Effect}
 use Rattle.mix_engine.specs.Outcomes.{Outcome, only, unbuilt}
-use Rattle.mix_engine.specs.CustomEvents.{broadcast_custom_event}
-use Rattle.mix_engine.specs.InputRequests.{create_input}
-use Rattle.mix_engine.specs.ProgramRequests.{set_current_program_scene}
-use Rattle.mix_engine.specs.SceneRequests.{get_scene_list, create_scene}
 
--- what a request comes to: its answer, its events, and what it leaves
-pub record Requested : Type 0 where
-  pub done : Done
-  pub events : List Event
-  pub studio : StudioState
-  pub notes : Notes
+-- a request of its own in a message
+abbrev pub alone : ℕ → Caller
+alone conn = record { conn = conn; mode = Single }
 
--- what a request is answered: 100 with its answer, or the status that refuses it
-abbrev pub done_with : List ℕ → Option (List ℕ) → Result (Option Json) ℕ → Done
-done_with kind id (Ok answer) =
-    record { kind = kind; id = id; status = 100; response = answer }
-done_with kind id (Err status) =
-    record { kind = kind; id = id; status = status; response = None }
+-- the line of a request; a request that isn't built yet has none, as those on items have none so far. A
+-- type that the mixer isn't to know is 204
+abbrev pub line_of : StudioState → Notes → Caller → Body → RequestType → Option (Result Effect ℕ)
+line_of s notes caller body (Scene request) = scenes.scene_line s notes caller body request
+line_of s notes caller body (Item request) = None
+line_of s notes caller body (Input request) = inputs.input_line s notes caller body request
+line_of s notes caller body (Output request) = outputs.output_line s notes caller body request
+line_of s notes caller body Unknown = Some (Err 204)
 
--- the answer of an effect
-abbrev pub answer_in : Result Effect ℕ → Result (Option Json) ℕ
-answer_in (Ok effect) = Ok effect.answer
-answer_in (Err status) = Err status
+-- a request without a type is 203
+abbrev pub line_named : StudioState → Notes → Caller → Body → Option RequestType
+    → Option (Result Effect ℕ)
+line_named s notes caller body None = Some (Err 203)
+line_named s notes caller body (Some request) = line_of s notes caller body request
 
-abbrev pub events_in : Result Effect ℕ → List Event
-events_in (Ok effect) = effect.events
-events_in (Err status) = []
+abbrev pub line_asked : StudioState → Notes → Caller → Ask → Option (Result Effect ℕ)
+line_asked s notes caller ask = line_named s notes caller ask.body (option_map type_of ask.kind)
 
--- the studio and the notes after a request: as they were, where it is refused
-abbrev pub studio_in : StudioState → Result Effect ℕ → StudioState
-studio_in s (Ok effect) = effect.studio
-studio_in s (Err status) = s
+-- the most events of a request, those of the settling aside
+abbrev pub most_events : RequestType → ℕ
+most_events (Scene request) = scenes.most_events request
+most_events (Item request) = 0
+most_events (Input request) = inputs.most_events request
+most_events (Output request) = outputs.most_events request
+most_events Unknown = 0
 
-abbrev pub notes_in : Notes → Result Effect ℕ → Notes
-notes_in notes (Ok effect) = effect.notes
-notes_in notes (Err status) = notes
+abbrev pub most_named : Option RequestType → ℕ
+most_named None = 0
+most_named (Some request) = most_events request
 
-abbrev pub requested_by : StudioState → Notes → Ask → Result Effect ℕ → Requested
-requested_by s notes ask effect = record {
-  done = done_with (unwrap_or ask.kind []) ask.id (answer_in effect);
-  events = events_in effect;
-  studio = studio_in s effect;
-  notes = notes_in notes effect;
-}
+-- what was done about a request by its line, and what of it stands
+abbrev pub DoesLineAsked : Done → StudioModel → StudioModel → Notes → Notes → List Event → Ask
+    → Result Effect ℕ → Type 0
+DoesLineAsked done m m' n n' told ask (Err status) =
+    (done ≡ done_with (unwrap_or ask.kind []) ask.id (Err status)) × (m'.present ≡ m.present)
+    × (n' ≡ n) × (told ≡ [])
+DoesLineAsked done m m' n n' told ask (Ok effect) =
+    (done ≡ done_with (unwrap_or ask.kind []) ask.id (Ok effect.answer))
+    × (m'.present ≡ effect.studio) × (n' ≡ effect.notes) × (told ≡ effect.events)
 
--- which request a text names: one that is built, Sleep, which is of batches alone, one that isn't
--- built yet, or one that the mixer isn't to know
-unfoldable pub type_of : List ℕ → RequestType
-type_of kind =
-    if bytes_eq kind (codes "GetSceneList") then type.GetSceneList
-    else (if bytes_eq kind (codes "CreateScene") then type.CreateScene
-    else (if bytes_eq kind (codes "SetCurrentProgramScene") then type.SetCurrentProgramScene
-    else (if bytes_eq kind (codes "CreateInput") then type.CreateInput
-    else (if bytes_eq kind (codes "BroadcastCustomEvent") then type.BroadcastCustomEvent
-    else (if bytes_eq kind (codes "Sleep") then type.Sleep
-    else (if is_known kind then type.NotBuilt else type.Unknown))))))
+abbrev pub DoesDone : Done → StudioModel → StudioModel → Notes → Notes → List Event → Ask
+    → Option (Result Effect ℕ) → Type 0
+DoesDone done m m' n n' told ask None = ⊥
+DoesDone done m m' n n' told ask (Some line) = DoesLineAsked done m m' n n' told ask line
 
--- the table of requests: the effect of each, or the status that it is answered with; a request that
--- isn't built yet has no line, and a program that changes by fades isn't built either
-abbrev pub effect_of : StudioState → Notes → Body → RequestType → Option (Result Effect ℕ)
-effect_of s notes body type.GetSceneList = Some (get_scene_list s notes body)
-effect_of s notes body type.CreateScene = Some (create_scene s notes body)
-effect_of s notes body type.SetCurrentProgramScene =
-    if s.program.fades then None else Some (set_current_program_scene s notes body)
-effect_of s notes body type.CreateInput = Some (create_input s notes body)
-effect_of s notes body type.BroadcastCustomEvent = Some (broadcast_custom_event s notes body)
-effect_of s notes body type.Sleep = Some (Err 206)
-effect_of s notes body type.NotBuilt = None
-effect_of s notes body type.Unknown = Some (Err 204)
+-- the same, or the request isn't built, or there was no memory: then nothing is done
+abbrev pub DoesAsk : Result (Option Done) NoMemory → StudioModel → StudioModel → Notes → Notes
+    → List Event → Ask → Option (Result Effect ℕ) → Type 0
+DoesAsk (Ok (Some done)) m m' n n' told ask line = DoesDone done m m' n n' told ask line
+DoesAsk (Ok None) m m' n n' told ask line =
+    (line ≡ None) × (m'.present ≡ m.present) × (n' ≡ n)
+DoesAsk (Err fault) m m' n n' told ask line = (m'.present ≡ m.present) × (n' ≡ n)
 
-abbrev pub requested_or : StudioState → Notes → Ask → Option (Result Effect ℕ) → Option Requested
-requested_or s notes ask None = None
-requested_or s notes ask (Some effect) = Some (requested_by s notes ask effect)
+-- what the connection is told of its request, and what the line leaves
+abbrev pub answers_by : Mixer → ℕ → Ask → Option (Result Effect ℕ) → Outcome
+answers_by s conn ask None = unbuilt s
+answers_by s conn ask (Some (Err status)) = only s (Told conn)
+    (Response (done_with (unwrap_or ask.kind []) ask.id (Err status)) ∷ [])
+answers_by s conn ask (Some (Ok effect)) = record (only s (Told conn)
+    (Response (done_with (unwrap_or ask.kind []) ask.id (Ok effect.answer)) ∷ [])) {
+      events = effect.events;
+      studio = effect.studio;
+      notes = effect.notes;
+    }
 
--- what a request comes to; nothing where its type isn't built yet
-unfoldable pub requested : StudioState → Notes → Ask → Option Requested
-requested s notes ask =
-    requested_or s notes ask (effect_of s notes ask.body (type_of (unwrap_or ask.kind [])))
-
--- a connection is told what was done about its request
-abbrev pub answers : Mixer → ℕ → Option Requested → Outcome
-answers s conn None = unbuilt s
-answers s conn (Some r) = record (only s (Told conn) (Response r.done ∷ [])) {
-  events = r.events;
-  studio = r.studio;
-  notes = r.notes;
-}
+-- a connection asks for a request
+abbrev pub answers : Mixer → ℕ → Ask → Outcome
+answers s conn ask = answers_by s conn ask (line_asked s.studio s.notes (alone conn) ask)

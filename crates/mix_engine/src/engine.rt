@@ -1,18 +1,23 @@
 //! The engine: the mixer, and the journal of all that it has done.
-ghost use Rattle.std.specs.Prelude.{◌≡◌, ◌↔◌, ◌≤◌, ◌&&◌, IfOk, IfErr, IfSome, OnOk, IsTrue, false};
+ghost use Rattle.std.specs.Prelude.{◌≡◌, ◌↔◌, ◌≤◌, ◌+◌, ◌&&◌, IfOk, IfErr, IfSome, OnOk, IsTrue, false};
 ghost use Rattle.std.specs.Prelude.{is_some, length, nat_lt, nat_le};
 ghost use Rattle.mix_model.specs.declared.action.Action.{Action};
+ghost use Rattle.mix_model.specs.State.{StudioState};
+ghost use Rattle.mix_model.specs.WholeShape.{StateShape};
+ghost use Rattle.mix_shape.specs.Refused.{are_limits};
 ghost use Rattle.mix_engine.specs.Answers.{Agrees, Replies, answer_to, due_after, IsSayableReply};
 ghost use Rattle.mix_engine.specs.Built.{is_built};
 ghost use Rattle.mix_engine.specs.Heads.{head_of};
+ghost use Rattle.mix_engine.specs.Headings.{is_unbuilt};
+ghost use Rattle.mix_engine.specs.Numbers.{NumbersWithin};
 ghost use Rattle.mix_engine.specs.Openings.{IsFitting};
-ghost use Rattle.mix_model.specs.State.{StudioState};
-ghost use Rattle.mix_model.specs.WholeShape.{StudioShape};
-ghost use Rattle.mix_engine.specs.Spoken.{HasShot, IsSaid};
+ghost use Rattle.mix_engine.specs.StepAnswers.{HasShot, HasVoices, IsReady};
 
-use crate::{ActFault, Full, Head, Mixing, Own, Setup, Spoken};
+use crate::laws::requests_are_proper;
+use crate::{ActFault, Full, Head, Heading, Mixing, Setup, StepAnswer};
 use mix_base::{ListOf, NoMemory, PassNo, Shelf};
-use mix_model::{Action, Answer, Entry, Message, Reply};
+use mix_events::{Answer, Reply};
+use mix_model::{Action, Entry, Message};
 use mix_script::line_length;
 use std::alloc::Global;
 use std::marker::Model;
@@ -36,7 +41,8 @@ impl Model for Engine {
     ghost use Rattle.std.specs.Prelude.{IsTrue, length, ◌≤◌};
     ghost use Rattle.mix_base.specs.contracts.json.Json as json_contracts;
     ghost use Rattle.std.specs.Coded.{codes};
-    ghost use Rattle.mix_engine.specs.Engines.{EngineModel, are_limits};
+    ghost use Rattle.mix_shape.specs.Refused.{are_limits};
+    ghost use Rattle.mix_engine.specs.Engines.{EngineModel};
     ghost use Rattle.mix_engine.specs.Mixer.{start_of};
     ghost use Rattle.mix_engine.specs.Replayed.{Replayed};
 
@@ -60,7 +66,7 @@ impl Model for Engine {
 
 impl Engine {
     ghost use Rattle.mix_engine.specs.Engines.{engine_of, present, has_room, acted, refused};
-    ghost use Rattle.mix_engine.specs.Engines.{are_limits, IsHistoryFull, TellsNumbers};
+    ghost use Rattle.mix_engine.specs.Engines.{IsHistoryFull, TellsNumbers};
     ghost use Rattle.mix_engine.specs.Engines.{IsLineOf, text_bytes, with_full};
     ghost use Rattle.mix_engine.specs.declared.fault.ActFault.TheVariants.{HistoryFull};
 
@@ -71,7 +77,7 @@ impl Engine {
         requires limits { IsTrue (are_limits setup.limits) }
         ensures value { IfOk result (λ engine. engine ≡ engine_of setup) }
     {
-        let Ok(opened) = Mixing::open(alloc, &setup.collection) else {
+        let Ok(opened) = Mixing::open(alloc, &setup) else {
             drop(setup);
             return Err(NoMemory);
         };
@@ -116,22 +122,21 @@ impl Engine {
             drop(action);
             return Err(ActFault::NoMemory);
         };
-        match self.mixing.act(alloc, &action) {
-            Err(_) => {
-                drop(action);
-                Err(ActFault::NoMemory)
-            }
-            Ok(None) => {
-                drop(action);
-                Ok(None)
-            }
-            Ok(Some(spoken)) => {
-                self.bytes += line;
-                let action = shelved(&mut self.shelf, action);
-                self.journal.push_reserved(Entry { from, action });
-                Ok(Some(self.answer(spoken)))
-            }
+        requests_are_proper();
+        self.mixing.has_shape();
+        let Ok(answer) = self.mixing.act(alloc, &action) else {
+            drop(action);
+            return Err(ActFault::NoMemory);
+        };
+        if answer.heading.is_unbuilt() {
+            drop(action);
+            drop(answer);
+            return Ok(None);
         }
+        self.bytes += line;
+        let action = shelved(&mut self.shelf, action);
+        self.journal.push_reserved(Entry { from, action });
+        Ok(Some(self.answer(answer)))
     }
 
     /// All that was done, in its order.
@@ -166,12 +171,23 @@ impl Engine {
     pub fn head(&self, recording: u64) -> Head
         ensures value { result ≡ head_of (present self.now).studio recording }
     {
-        self.mixing.head(recording)
+        let (width, height) = self.mixing.canvas();
+        Head {
+            i420: self.setup.collection.i420,
+            tracks: self.setup.collection.tracks,
+            width,
+            height,
+            rate: self.mixing.rate(),
+            recording,
+        }
     }
 
-    /// The studio has the shape of every studio, after each action. It does nothing.
+    /// The whole state has the shape of every mixer's, after each action, and no number runs ahead of
+    /// the entries: each next number and both clocks are at most 4096 more than there are. It does
+    /// nothing.
     pub fn has_shape(&self)
-        ensures shape { StudioShape (present self.now).studio }
+        ensures shape { StateShape (present self.now) }
+        ensures numbers { NumbersWithin (4096 + length self.now.journal) (present self.now) }
     {
         self.mixing.has_shape();
     }
@@ -202,29 +218,30 @@ impl Engine {
     }
 
     /// What a step is answered, in the state that it left.
-    fn answer(&self, spoken: Spoken) -> Answer
-        requires said { IsSaid spoken }
-        ensures reply { (found : StudioState) → HasShot spoken.own found spoken.shot →
-            Replies spoken.own found spoken.said.items
-            (due_after spoken.own (present self.now)) result.reply }
+    fn answer(&self, step: StepAnswer) -> Answer
+        requires ready { IsReady step }
+        ensures reply { (found : StudioState) → HasShot step.heading found step.shot →
+            HasVoices step.heading found step.voices →
+            Replies step.heading found step.said.items
+            (due_after step.heading (present self.now)) result.reply }
         ensures stopping { result.stopping ≡ (present self.now).notes.stop }
         ensures dying { result.dying ≡ length (present self.now).studio.graph.dying }
         ensures sayable { IsSayableReply result.reply }
     {
-        let due = self.is_due(spoken.own);
+        let due = self.is_due(step.heading);
         Answer {
-            reply: reply_of(spoken, due),
+            reply: reply_of(step, due),
             stopping: self.mixing.stopping(),
             dying: self.mixing.dying(),
         }
     }
 
     /// Whether the next request of the oldest batch of the one that acted is due.
-    fn is_due(&self, own: Own) -> bool
-        ensures value { result ≡ due_after own (present self.now) }
+    fn is_due(&self, heading: Heading) -> bool
+        ensures value { result ≡ due_after heading (present self.now) }
     {
-        match own {
-            Own::Told { conn } => self.mixing.due(conn),
+        match heading {
+            Heading::Told { conn } => self.mixing.due(conn),
             _ => false,
         }
     }
@@ -253,31 +270,37 @@ fn message_on(shelf: &mut Shelf, message: Message) -> Message
     }
 }
 
-/// The reply of a step that answers a connection.
-fn reply_of(spoken: Spoken, due: bool) -> Reply
-    requires said { IsSaid spoken }
-    ensures reply { (found : StudioState) → HasShot spoken.own found spoken.shot →
-        Replies spoken.own found spoken.said.items due result }
+/// The reply of a step that is built.
+fn reply_of(step: StepAnswer, due: bool) -> Reply
+    requires ready { IsReady step }
+    ensures reply { (found : StudioState) → HasShot step.heading found step.shot →
+        HasVoices step.heading found step.voices →
+        Replies step.heading found step.said.items due result }
     ensures sayable { IsSayableReply result }
 {
-    let Spoken { own, said, shot } = spoken;
-    match own {
-        Own::Full => Reply::Full,
-        Own::Gone { conn } => Reply::Gone { conn },
-        Own::Left { conn } => Reply::Left { conn },
-        Own::Told { conn } => Reply::Told {
+    let StepAnswer {
+        heading,
+        said,
+        shot,
+        voices,
+    } = step;
+    match heading {
+        Heading::Full => Reply::Full,
+        Heading::Gone { conn } => Reply::Gone { conn },
+        Heading::Left { conn } => Reply::Left { conn },
+        Heading::Told { conn } => Reply::Told {
             conn,
             said: ListOf::from_vec(said),
             close: None,
             due,
         },
-        Own::Closed { conn, code } => Reply::Told {
+        Heading::Closed { conn, code } => Reply::Told {
             conn,
             said: ListOf::from_vec(said),
             close: Some(code),
             due,
         },
-        Own::Frame { number, recording } => match shot {
+        Heading::Frame { number, recording } => match shot {
             Some(shot) => Reply::Frame {
                 number,
                 shot,
@@ -285,9 +308,19 @@ fn reply_of(spoken: Spoken, due: bool) -> Reply
             },
             None => unreachable!(),
         },
-        Own::NoFrame => Reply::NoFrame,
-        Own::FrameGone { number } => Reply::FrameGone { number },
-        Own::NoSuchFrame => Reply::NoSuchFrame,
-        Own::Block { .. } | Own::Destroyed { .. } | Own::Nothing => unreachable!(),
+        Heading::NoFrame => Reply::NoFrame,
+        Heading::Block { number, recording } => match voices {
+            Some(voices) => Reply::Block {
+                number,
+                voices,
+                recording,
+            },
+            None => unreachable!(),
+        },
+        Heading::FrameGone { number } => Reply::FrameGone { number },
+        Heading::NoSuchFrame => Reply::NoSuchFrame,
+        Heading::Destroyed { serial } => Reply::Destroyed(serial),
+        Heading::Nothing => Reply::Nothing,
+        Heading::NotBuilt => unreachable!(),
     }
 }

@@ -1,8 +1,4 @@
 //! The head of a recording's record.
-ghost use Rattle.std.specs.Prelude.{◌≡◌};
-ghost use Rattle.mix_engine.specs.Heads.{head_of};
-
-use crate::Mixing;
 use mix_base::Rate;
 
 /// The head of a recording's record: what its pictures and its sound are.
@@ -18,21 +14,4 @@ pub struct Head {
     pub rate: Rate,
     /// The number of the recording.
     pub recording: u64,
-}
-
-impl Mixing {
-    /// The head of this recording's record.
-    pub fn head(&self, recording: u64) -> Head
-        ensures value { result ≡ head_of self.now.mixer.studio recording }
-    {
-        let (width, height) = self.still.canvas;
-        Head {
-            i420: self.still.i420,
-            tracks: self.still.tracks,
-            width,
-            height,
-            rate: self.still.rate,
-            recording,
-        }
-    }
 }

@@ -1,65 +1,66 @@
 //! Opening a collection.
-ghost use Rattle.std.specs.Prelude.{◌≡◌, ◌≤◌, ◌&&◌, [], All, IfOk, IfSome, IsTrue, option_map};
-ghost use Rattle.mix_model.specs.Collections.{line_fits};
-ghost use Rattle.mix_model.specs.Lines.{serial_named};
+ghost use Rattle.std.specs.Prelude.{◌≡◌, ◌≤◌, ◌&&◌, All, IfOk, IfSome, IsTrue, Ok, [], false, is_none};
+ghost use Rattle.std.specs.Prelude.{is_some, option_map, true};
+ghost use Rattle.mix_graph.specs.Refused.{are_limits};
+ghost use Rattle.mix_model.specs.Lines.{named_scene_cause, serial_named};
 ghost use Rattle.mix_model.specs.Lookups.{row_passes};
-ghost use Rattle.mix_model.specs.Holders.{is_named};
-ghost use Rattle.mix_model.specs.Rows.{is_scene, is_input};
-ghost use Rattle.mix_model.specs.Values.{is_place, are_settings};
+ghost use Rattle.mix_model.specs.Opening.{opening_of};
+ghost use Rattle.mix_model.specs.Rows.{is_input, is_scene};
+ghost use Rattle.mix_model.specs.State.{StudioState};
+ghost use Rattle.mix_model.specs.Values.{are_settings, is_place};
 ghost use Rattle.mix_session.specs.SessionState.{secret_of};
-ghost use Rattle.mix_engine.specs.Openings.{mixer_opened, still_of};
-ghost use Rattle.mix_engine.specs.Openings.{Fits, IsFitting};
-ghost use Rattle.mix_engine.specs.Openings.{IsFresh, Adds, OpensLines, OpensProgram};
-ghost use Rattle.mix_engine.specs.Spoken.{ItemsWithin};
+ghost use Rattle.mix_studio.specs.Openings.{IsFresh};
+ghost use Rattle.mix_engine.specs.Mixer.{start_of};
+ghost use Rattle.mix_engine.specs.Numbers.{NumbersWithin};
+ghost use Rattle.mix_engine.specs.Openings.{Adds, Fits, IsFitting, IsLow, OpensLines, can_open};
 
-use crate::{Audience, Mixing, Still};
-use mix_base::{Bytes32, Limits, Name, NoMemory, Serial, Text};
+use crate::Mixing;
+use mix_audience::Audience;
+use mix_base::{Bytes32, Limits, ListOf, Name, NoMemory, Serial, Text};
 use mix_graph::Graph;
 use mix_json::JsonReader;
-use mix_model::{Collection, GraphFault, ItemSpec, Kind, Line, Settings};
+use mix_model::{Collection, GraphFault, ItemSpec, Kind, Line, Notes, Settings};
 use mix_session::Secret;
+use mix_studio::{Setup, Studio};
 use std::alloc::Global;
 
 impl Mixing {
     /// Opens a collection whose values are in their ranges: nobody is connected. None where it can't
     /// be opened.
-    pub fn open(alloc: Global, collection: &Collection) -> Result<Option<Mixing>, NoMemory>
-        requires fits { IsFitting collection.now }
-        ensures value { IfOk result (λ mixing. option_map (λ m. m.mixer) mixing ≡ mixer_opened collection.now) }
-        ensures serials { IfOk result
-            (λ mixing. IfSome mixing (λ m. m.mixer.studio.graph.next_serial ≤ 513)) }
-        ensures clock { IfOk result
-            (λ mixing. IfSome mixing (λ m. m.mixer.studio.graph.clock ≡ 0)) }
-        ensures items { IfOk result
-            (λ mixing. IfSome mixing (λ m. ItemsWithin 2049 m.mixer.studio.graph)) }
-        ensures conns { IfOk result (λ mixing. IfSome mixing (λ m. m.mixer.next_conn ≡ 1)) }
+    pub fn open(alloc: Global, setup: &Setup) -> Result<Option<Mixing>, NoMemory>
+        requires fits { IsFitting setup.now.collection }
+        requires limits { IsTrue (are_limits setup.now.limits) }
+        ensures opens { IfOk result
+            (λ mixing. is_some mixing ≡ can_open setup.now.collection) }
+        ensures value { IfOk result (λ mixing. IfSome mixing
+            (λ m. m.mixer ≡ start_of setup.now.collection)) }
         ensures nobody { IfOk result (λ mixing. IfSome mixing (λ m. m.listeners ≡ [])) }
+        ensures numbers { IfOk result (λ mixing. IfSome mixing
+            (λ m. NumbersWithin 4096 m.mixer)) }
     {
-        if collection.studio.is_some() {
+        if !can_open(alloc, &setup.collection)? {
             return Ok(None);
         }
-        let Some(graph) = open_lines(alloc, collection.lines.as_slice())? else {
-            return Ok(None);
-        };
-        let Some((graph, program)) = on_program(alloc, graph, &collection.program)? else {
-            return Ok(None);
-        };
-        graph.has_shape();
-        let Ok(secret) = secret_in(&collection.secret) else {
-            drop(graph);
+        let studio = Studio::open(alloc, setup)?;
+        let Ok(secret) = secret_in(&setup.collection.secret) else {
+            drop(studio);
             return Err(NoMemory);
         };
         let Ok(reader) = reading_room(alloc) else {
-            drop(graph);
+            drop(studio);
             drop(secret);
             return Err(NoMemory);
         };
         Ok(Some(Mixing {
-            graph,
-            still: still_of(collection, program),
+            studio,
+            notes: Notes {
+                stop: false,
+                holds: ListOf::from_vec(Vec::new(alloc)),
+                watches: ListOf::from_vec(Vec::new(alloc)),
+                sleep: 0,
+            },
             audience: Audience::new(alloc, secret),
             next_conn: 1,
-            clock: 0,
             reader,
         }))
     }
@@ -68,22 +69,6 @@ impl Mixing {
 /// The room that reading messages takes.
 fn reading_room(alloc: Global) -> Result<JsonReader, NoMemory> {
     JsonReader::new(alloc)
-}
-
-/// What an opening collection never changes later.
-fn still_of(collection: &Collection, program: Serial) -> Still
-    ensures value { result ≡ still_of collection.now program }
-{
-    Still {
-        program,
-        fades: collection.fade,
-        duration: collection.ms,
-        canvas: collection.canvas,
-        rate: collection.rate,
-        i420: collection.i420,
-        tracks: collection.tracks,
-        studio_mode: false,
-    }
 }
 
 /// The secret of a collection.
@@ -97,6 +82,25 @@ fn secret_in(given: &Option<(Text, Bytes32)>) -> Result<Option<Secret>, NoMemory
             salt: *salt,
         })),
     }
+}
+
+/// Whether a collection can be opened: its lines are done on sources of their own.
+fn can_open(alloc: Global, collection: &Collection) -> Result<bool, NoMemory>
+    requires fits { All Fits collection.now.lines }
+    ensures value { IfOk result (λ opens. opens ≡ can_open collection.now) }
+    ensures low { IfOk result (λ opens. opens ≡ true →
+        (s : StudioState) → opening_of collection.now ≡ Ok s → IsLow s) }
+{
+    if collection.studio.is_some() {
+        return Ok(false);
+    }
+    let Some(mut graph) = open_lines(alloc, collection.lines.as_slice())? else {
+        return Ok(false);
+    };
+    graph.has_shape();
+    let opens = names_scene(alloc, &mut graph, &collection.program);
+    drop(graph);
+    opens
 }
 
 /// The sources of lines; none where a line isn't built, or is refused.
@@ -157,6 +161,7 @@ fn add_scene(graph: &mut Graph, name: &Name) -> Result<bool, NoMemory>
     ensures added { IfOk result
         (λ added. Adds added graph.old.present (Line.Scene name.now) graph.new) }
 {
+    graph.has_shape();
     match graph.create_scene(name.share()) {
         Ok(_) => Ok(true),
         Err(fault) => match fault {
@@ -178,6 +183,7 @@ fn add_input(
     ensures added { IfOk result
         (λ added. Adds added graph.old.present (Line.Input kind name.now settings) graph.new) }
 {
+    graph.has_shape();
     match graph.create_input(name.share(), kind, settings, None) {
         Ok(_) => Ok(true),
         Err(fault) => match fault {
@@ -222,27 +228,16 @@ fn serial_named(alloc: Global, graph: &Graph, name: &Name) -> Result<Serial, NoM
     Ok(serial)
 }
 
-/// Channel 0 is given the scene of this name; none where it is refused.
-fn on_program(alloc: Global, graph: Graph, name: &Name) -> Result<Option<(Graph, Serial)>, NoMemory>
-    requires fresh { IsFresh graph }
-    ensures value { IfOk result (λ made. OpensProgram made graph.present name.now) }
+/// Whether a scene has this name. It comes to be on channel 0.
+fn names_scene(alloc: Global, graph: &mut Graph, name: &Name) -> Result<bool, NoMemory>
+    ensures value { IfOk result
+        (λ named. named ≡ is_none (named_scene_cause graph.old.present name.now)) }
 {
-    let mut graph = graph;
-    let Ok(program) = serial_named(alloc, &graph, name) else {
-        drop(graph);
-        return Err(NoMemory);
-    };
-    if !is_scene_row(&graph, program) {
-        drop(graph);
-        return Ok(None);
+    let scene = serial_named(alloc, graph, name)?;
+    if !is_scene_row(graph, scene) {
+        return Ok(false);
     }
-    match graph.set_channel(0, Some(program), None) {
-        Ok(()) => Ok(Some((graph, program))),
-        Err(_) => {
-            drop(graph);
-            Ok(None)
-        }
-    }
+    Ok(graph.set_channel(0, Some(scene), None).is_ok())
 }
 
 /// Whether the row of this serial is a scene.

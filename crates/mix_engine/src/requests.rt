@@ -1,156 +1,119 @@
-//! Requests: which of them are built, and what each is answered.
-ghost use Rattle.std.specs.Prelude.{◌≡◌, ℕ, ◌<◌, ◌≤◌, ◌+◌, ◌^◌, [], IfOk, OnOk, OnErr, option_map, unwrap_or};
-ghost use Rattle.mix_model.specs.Opening.{no_notes};
-ghost use Rattle.mix_engine.specs.Requests.{answer_in, done_with, effect_of, requested};
-ghost use Rattle.mix_engine.specs.Requesting.{done_in, studio_after, studio_by};
-ghost use Rattle.mix_engine.specs.Scenery.{HasScenes};
+//! Requests of all types: which crate does each, and what it is answered.
+ghost use Rattle.std.specs.Prelude.{◌≡◌, [], option_map};
 ghost use Rattle.mix_model.specs.WholeShape.{StudioShape};
-ghost use Rattle.mix_engine.specs.Spoken.{ItemsWithin};
-ghost use Rattle.mix_engine.specs.Stills.{studio_of};
-ghost use Rattle.mix_engine.specs.Telling.{TellsLine, TellsRequested};
+ghost use Rattle.mix_requests.specs.Outcomes.{DoesLine};
+ghost use Rattle.mix_requests.specs.Ready.{IsReady};
+ghost use Rattle.mix_requests.specs.Table.{type_of};
+ghost use Rattle.mix_engine.specs.Requests.{DoesAsk, alone, line_asked, line_named, most_named};
 
-use crate::custom_events::broadcast_custom_event;
-use crate::inputs::create_input;
-use crate::programs::set_current_program_scene;
-use crate::scenes::{create_scene, scene_list};
-use crate::{RequestType, Still};
-use mix_base::{Json, NoMemory, Text};
-use mix_graph::Graph;
-use mix_model::{Ask, Body, Done, Twin};
+use mix_base::{ConnId, Json, NoMemory};
+use mix_model::{Ask, Body, Done, Notes};
+use mix_req_inputs as inputs;
+use mix_req_outputs as outputs;
+use mix_req_scenes as scenes;
+use mix_requests::{Caller, Events, Mode, Refused, RequestType, done, type_text};
+use mix_studio::Studio;
 use std::alloc::Global;
 
-/// What is done about a request, and nothing where it isn't built. Its events come as pairs, which are
-/// made before anything is changed; those of the settling aside, which nobody is told yet.
-pub fn answer(
+/// The request that the type of this names; none where it has none.
+pub fn named_by(ask: &Ask) -> Option<RequestType>
+    ensures value { result ≡ option_map type_of ask.now.kind }
+{
+    match &ask.kind {
+        None => None,
+        Some(kind) => Some(RequestType::of_text(kind.as_str())),
+    }
+}
+
+/// The most events of a request, those of the settling aside.
+pub fn most_events(request: Option<RequestType>) -> u32
+    ensures value { result ≡ most_named request }
+{
+    match request {
+        Some(RequestType::Scene(request)) => scenes::most_events(request),
+        Some(RequestType::Input(request)) => inputs::most_events(request),
+        Some(RequestType::Output(request)) => outputs::most_events(request),
+        Some(RequestType::Item(_)) | Some(RequestType::Unknown) | None => 0,
+    }
+}
+
+/// Does a request of a connection, and nothing where it isn't built. What it tells comes to `events`,
+/// which is empty before.
+pub fn do_request(
     alloc: Global,
-    graph: &mut Graph,
-    still: &mut Still,
+    studio: &mut Studio,
+    notes: &mut Notes,
+    conn: ConnId,
+    request: Option<RequestType>,
     ask: Ask,
-    twins: &mut Vec<Twin>,
+    events: &mut Events,
 ) -> Result<Option<Done>, NoMemory>
-    requires serial { graph.old.present.next_serial < 4294967295 }
-    requires scenes { HasScenes graph.old.present }
-    requires program { still.old.program < 2 ^ 48 }
-    requires items { ItemsWithin 4294967294 graph.old.present }
-    requires shape { StudioShape (studio_of still.old graph.old.present) }
-    requires empty { twins.old.items ≡ [] }
-    ensures reply { IfOk result (λ done. done
-        ≡ done_in (requested (studio_of still.old graph.old.present) no_notes ask)) }
-    ensures state { OnOk result (studio_of still.new graph.new.present
-        ≡ studio_after (studio_of still.old graph.old.present)
-        (requested (studio_of still.old graph.old.present) no_notes ask)) }
-    ensures tells { OnOk result (TellsRequested twins.new.items
-        (requested (studio_of still.old graph.old.present) no_notes ask)) }
-    ensures scenes { HasScenes graph.new.present }
-    ensures program { still.new.program < 2 ^ 48 }
-    ensures shape { StudioShape (studio_of still.new graph.new.present) }
-    ensures clock { graph.new.present.clock ≡ graph.old.present.clock }
-    ensures items { (n : ℕ) → ItemsWithin n graph.old.present →
-        ItemsWithin (n + 1) graph.new.present }
-    ensures grows { graph.new.present.next_serial ≤ graph.old.present.next_serial + 1 }
-    ensures err { OnErr result
-        ((graph.new.present ≡ graph.old.present) × (still.new ≡ still.old)) }
+    requires ready { IsReady studio.old notes.old }
+    requires named { request ≡ option_map type_of ask.kind }
+    requires empty { events.old ≡ [] }
+    ensures does { DoesAsk result studio.old studio.new notes.old notes.new events.new ask
+        (line_asked studio.old.present notes.old (alone conn) ask) }
+    ensures shape { StudioShape studio.new.present }
 {
     let Ask { kind, id, body } = ask;
-    let Ok(kind) = or_empty(alloc, kind) else {
+    let Ok(kind) = type_text(alloc, kind) else {
         drop(id);
         drop(body);
         return Err(NoMemory);
     };
-    let named = RequestType::of_text(kind.as_str());
-    let found = answer_to(alloc, graph, still, named, &body, twins);
+    let caller = Caller {
+        conn,
+        mode: Mode::Single,
+    };
+    let found = answer(alloc, studio, notes, caller, request, &body, events);
     drop(body);
     match found {
-        Err(_) => {
+        Some(Ok(response)) => Ok(Some(done(kind, id, Ok(response)))),
+        Some(Err(Refused::Status(status))) => {
+            events.clear();
+            Ok(Some(done(kind, id, Err(status))))
+        }
+        Some(Err(Refused::NoMemory)) => {
             drop(kind);
             drop(id);
             Err(NoMemory)
         }
-        Ok(None) => {
+        None => {
             drop(kind);
             drop(id);
             Ok(None)
         }
-        Ok(Some(answer)) => Ok(Some(done(kind, id, answer))),
     }
 }
 
-/// The answer to a request of a type, and nothing where it isn't built.
-fn answer_to(
+/// Has a request done by the crate that has it; nothing is done where it isn't built.
+fn answer(
     alloc: Global,
-    graph: &mut Graph,
-    still: &mut Still,
-    named: RequestType,
+    studio: &mut Studio,
+    notes: &mut Notes,
+    caller: Caller,
+    request: Option<RequestType>,
     body: &Body,
-    twins: &mut Vec<Twin>,
-) -> Result<Option<Result<Option<Json>, u16>>, NoMemory>
-    requires serial { graph.old.present.next_serial < 4294967295 }
-    requires scenes { HasScenes graph.old.present }
-    requires program { still.old.program < 2 ^ 48 }
-    requires items { ItemsWithin 4294967294 graph.old.present }
-    requires shape { StudioShape (studio_of still.old graph.old.present) }
-    requires empty { twins.old.items ≡ [] }
-    ensures reply { IfOk result (λ answer. answer ≡ option_map answer_in
-        (effect_of (studio_of still.old graph.old.present) no_notes body.now named)) }
-    ensures state { OnOk result (studio_of still.new graph.new.present
-        ≡ studio_by (studio_of still.old graph.old.present)
-        (effect_of (studio_of still.old graph.old.present) no_notes body.now named)) }
-    ensures tells { OnOk result (TellsLine twins.new.items
-        (effect_of (studio_of still.old graph.old.present) no_notes body.now named)) }
-    ensures scenes { HasScenes graph.new.present }
-    ensures program { still.new.program < 2 ^ 48 }
-    ensures shape { StudioShape (studio_of still.new graph.new.present) }
-    ensures clock { graph.new.present.clock ≡ graph.old.present.clock }
-    ensures items { (n : ℕ) → ItemsWithin n graph.old.present →
-        ItemsWithin (n + 1) graph.new.present }
-    ensures grows { graph.new.present.next_serial ≤ graph.old.present.next_serial + 1 }
-    ensures err { OnErr result
-        ((graph.new.present ≡ graph.old.present) × (still.new ≡ still.old)) }
+    events: &mut Events,
+) -> Option<Result<Option<Json>, Refused>>
+    requires ready { IsReady studio.old notes.old }
+    requires empty { events.old ≡ [] }
+    ensures does { DoesLine result studio.old studio.new notes.old notes.new events.new
+        (line_named studio.old.present notes.old caller body.now request) }
+    ensures shape { StudioShape studio.new.present }
 {
-    match named {
-        RequestType::GetSceneList => {
-            let fields = scene_list(alloc, graph, *still)?;
-            Ok(Some(Ok(Some(Json::Obj(fields)))))
+    match request {
+        None => Some(Err(Refused::Status(203))),
+        Some(RequestType::Scene(request)) => {
+            scenes::answer(alloc, studio, notes, caller, request, body, events)
         }
-        RequestType::CreateScene => Ok(Some(create_scene(alloc, graph, *still, body, twins)?)),
-        RequestType::SetCurrentProgramScene => {
-            if still.fades {
-                return Ok(None);
-            }
-            Ok(Some(set_current_program_scene(graph, still, body, twins)?))
+        Some(RequestType::Item(_)) => None,
+        Some(RequestType::Input(request)) => {
+            inputs::answer(alloc, studio, notes, caller, request, body, events)
         }
-        RequestType::CreateInput => Ok(Some(create_input(alloc, graph, *still, body, twins)?)),
-        RequestType::BroadcastCustomEvent => Ok(Some(broadcast_custom_event(alloc, body, twins)?)),
-        RequestType::Sleep => Ok(Some(Err(206))),
-        RequestType::NotBuilt => Ok(None),
-        RequestType::Unknown => Ok(Some(Err(204))),
-    }
-}
-
-fn or_empty(alloc: Global, kind: Option<Text>) -> Result<Text, NoMemory>
-    ensures value { IfOk result (λ text. text ≡ unwrap_or kind []) }
-{
-    match kind {
-        Some(kind) => Ok(kind),
-        None => Text::from_str(alloc, ""),
-    }
-}
-
-fn done(kind: Text, id: Option<Text>, answer: Result<Option<Json>, u16>) -> Done
-    ensures value { result ≡ done_with kind id answer }
-{
-    match answer {
-        Ok(response) => Done {
-            kind,
-            id,
-            status: 100,
-            response,
-        },
-        Err(status) => Done {
-            kind,
-            id,
-            status,
-            response: None,
-        },
+        Some(RequestType::Output(request)) => {
+            outputs::answer(alloc, studio, notes, caller, request, body, events)
+        }
+        Some(RequestType::Unknown) => Some(Err(Refused::Status(204))),
     }
 }

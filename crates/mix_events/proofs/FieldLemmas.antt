@@ -4,7 +4,7 @@ use Rattle.mix_base.specs.declared.json.Json.{Json}
 use Rattle.mix_base.specs.declared.json.Json as json
 use Rattle.mix_model.specs.declared.ask.Done.{Done}
 use Rattle.mix_model.specs.declared.place.Place.{Place}
-use Rattle.mix_model.specs.declared.said.Login.{Login}
+use Rattle.mix_events.specs.declared.said.Login.{Login}
 use Rattle.mix_json.specs.Trees.{obj_of}
 use Rattle.mix_json.specs.Growing.{Grown, after_key, are_rising, close_object, more_field, more_fields, more_item, open_object}
 use Rattle.mix_json.proofs.TextLemmas.{closed_object, more_fields_append, object_under}

@@ -5,5 +5,7 @@ pub mod InputEvents
 pub mod ItemEvents
 pub mod OtherEvents
 pub mod Events
-pub mod Texts
+pub mod Messages
 pub mod Sayable
+pub mod Sayings
+pub mod Texts

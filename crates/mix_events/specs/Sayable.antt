@@ -6,8 +6,6 @@ use Rattle.mix_base.specs.Json.{Object, has_frac, obj_has_frac}
 use Rattle.mix_model.specs.declared.ask.Done.{Done}
 use Rattle.mix_model.specs.declared.event.Event.{Event}
 use Rattle.mix_model.specs.declared.event.Event.TheVariants as event
-use Rattle.mix_model.specs.declared.said.Said.{Said}
-use Rattle.mix_model.specs.declared.said.Said.TheVariants as said
 use Rattle.mix_events.specs.Statuses.{status_name}
 
 -- a serial fits the last twelve hexadecimal digits of a UUID
@@ -60,12 +58,3 @@ IsWholeAnswer (Some answer) = has_frac answer ≡ false
 -- a result whose status has a name, and in whose answer no number is fractional
 abbrev pub IsSayableDone : Done → Type 0
 IsSayableDone done = IsTrue (is_some (status_name done.status)) × IsWholeAnswer done.response
-
--- what can be said: its serials are short, its numbers are whole, its statuses have names, and a
--- response has the id of its request
-abbrev pub IsSayable : Said → Type 0
-IsSayable (said.Hello login) = Unit {0}
-IsSayable said.Identified = Unit {0}
-IsSayable (said.Event event) = IsSayableEvent event
-IsSayable (said.Response done) = IsTrue (is_some done.id) × IsSayableDone done
-IsSayable (said.BatchResponse id results) = All IsSayableDone results

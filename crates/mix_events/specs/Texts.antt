@@ -6,12 +6,13 @@ use Rattle.base64.specs.GeneralPurpose.{encode_of}
 use Rattle.mix_base.specs.declared.json.Json.{Json}
 use Rattle.mix_base.specs.declared.json.Json.TheVariants as json
 use Rattle.mix_model.specs.declared.ask.Done.{Done}
-use Rattle.mix_model.specs.declared.said.Login.{Login}
-use Rattle.mix_model.specs.declared.said.Said.{Said}
-use Rattle.mix_model.specs.declared.said.Said.TheVariants as said
+use Rattle.mix_events.specs.declared.said.Login.{Login}
+use Rattle.mix_events.specs.declared.said.Said.{Said}
+use Rattle.mix_events.specs.declared.said.Said.TheVariants as said
 use Rattle.mix_model.specs.Texts.{rpc_version, version_text}
 use Rattle.mix_json.specs.Trees.{obj_of}
 use Rattle.mix_json.specs.Writing.{json_text}
+use Rattle.mix_events.specs.Messages.{message_json}
 use Rattle.mix_events.specs.Trees.{Field, flag, number, object, text, value}
 use Rattle.mix_events.specs.Statuses.{status_name}
 use Rattle.mix_events.specs.Events.{event_fields}
@@ -95,10 +96,9 @@ fields_of (said.Event event) = event_fields event
 fields_of (said.Response done) = done_fields done
 fields_of (said.BatchResponse id results) = batch_fields id results
 
--- what is said, as a message: its fields stand at `d`, and its number at `op`
+-- what is said, as a message
 abbrev pub said_json : Said → Json
-said_json said =
-    json.Obj (obj_of (object (codes "d") (fields_of said) ∷ number (codes "op") (op_of said) ∷ []))
+said_json said = message_json (op_of said) (fields_of said)
 
 -- what is said, as a text: compact JSON, the keys of its objects in byte order
 abbrev pub said_text : Said → List ℕ

@@ -8,10 +8,10 @@ ghost use Rattle.mix_json.specs.Trees.{obj_of};
 ghost use Rattle.mix_events.specs.Texts.{authentication, hello_fields, identified_fields};
 ghost use Rattle.mix_events.specs.Texts.{login_fields};
 
+use crate::Login;
 use base64::engine::general_purpose::STANDARD;
 use mix_base::{Bytes32, NoMemory};
 use mix_json::JsonText;
-use mix_model::Login;
 use std::alloc::Global;
 
 /// With bytes in base64 (RFC 4648).

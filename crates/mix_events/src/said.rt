@@ -1,79 +1,66 @@
-//! What is said to a connection, as the text of a message.
-ghost use Rattle.std.specs.Prelude.{◌≡◌, IfOk, OnOk, codes, pos};
-ghost use Rattle.mix_base.specs.declared.json.Json as json;
-ghost use Rattle.mix_json.specs.Growing.{more_field, more_fields, more_item};
-ghost use Rattle.mix_json.specs.Trees.{obj_of};
-ghost use Rattle.mix_events.specs.Sayable.{IsSayable};
-ghost use Rattle.mix_events.specs.Texts.{fields_of, op_of, said_json, said_text};
+//! What is said to a connection.
+ghost use Rattle.std.specs.Prelude.{◌≡◌, IfOk};
 
-use crate::done::{batch, done};
-use crate::event::event_fields;
-use crate::hello::{hello, identified};
-use mix_base::{NoMemory, Text};
-use mix_json::JsonText;
-use mix_model::Said;
+use crate::{SaidList, ToldEvent};
+use mix_base::{Bytes32, ListOf, NoMemory, Text};
+use mix_model::{Done, DoneList, copy_dones};
 use std::alloc::Global;
 
-/// The number `op`.
-fn op_of(said: &Said) -> i64
-    ensures { result ≡ pos (op_of said.now) }
-{
-    match said {
-        Said::Hello { .. } => 0,
-        Said::Identified => 2,
-        Said::Event(_) => 5,
-        Said::Response(_) => 7,
-        Said::BatchResponse { .. } => 9,
+/// What a connection needs to log in.
+#[derive(Clone, Copy)]
+pub struct Login {
+    pub salt: Bytes32,
+    pub challenge: Bytes32,
+}
+
+/// What is said to a connection: one message of obs-websocket 5.
+#[derive(Drop)]
+pub enum Said {
+    /// Op 0. With a login where there is a secret.
+    Hello { login: Option<Login> },
+    /// Op 2.
+    Identified,
+    /// Op 5.
+    Event(ToldEvent),
+    /// Op 7.
+    Response(Done),
+    /// Op 9.
+    BatchResponse { id: Text, results: DoneList },
+}
+
+impl Said {
+    pub fn copy(&self, alloc: Global) -> Result<Said, NoMemory>
+        ensures value { IfOk result (λ copy. copy ≡ self.now) }
+    {
+        match self {
+            Said::Hello { login } => Ok(Said::Hello { login: *login }),
+            Said::Identified => Ok(Said::Identified),
+            Said::Event(event) => Ok(Said::Event(event.share()?)),
+            Said::Response(done) => Ok(Said::Response(done.copy(alloc)?)),
+            Said::BatchResponse { id, results } => {
+                let id = id.share()?;
+                let Ok(results) = copy_dones(alloc, results) else {
+                    drop(id);
+                    return Err(NoMemory);
+                };
+                Ok(Said::BatchResponse { id, results })
+            }
+        }
     }
 }
 
-fn with_fields(alloc: Global, out: &mut JsonText, said: &Said) -> Result<(), NoMemory>
-    requires { IsSayable said.now }
-    ensures value { OnOk result (out.new ≡ more_fields (fields_of said.now) out.old) }
+/// The same messages once more.
+pub(crate) fn copy_all_said(alloc: Global, all_said: &SaidList) -> Result<SaidList, NoMemory>
+    ensures value { IfOk result (λ copy. copy ≡ all_said.now) }
 {
-    match said {
-        Said::Hello { login } => hello(alloc, out, login),
-        Said::Identified => identified(out),
-        Said::Event(event) => event_fields(out, event),
-        Said::Response(answer) => done(out, answer),
-        Said::BatchResponse { id, results } => batch(out, id, results.as_slice()),
+    let all_said = all_said.as_slice();
+    let mut copies = Vec::with_capacity(alloc, all_said.len())?;
+    for said in all_said {
+        let Ok(copy) = said.copy(alloc) else {
+            drop(copies);
+            return Err(NoMemory);
+        };
+        copies.push_reserved(copy);
     }
-}
-
-/// With the object `d`.
-#[tactic(auto, using(crate::proofs::SaidLemmas::fields_under))]
-fn with_object(alloc: Global, out: &mut JsonText, said: &Said) -> Result<(), NoMemory>
-    requires { IsSayable said.now }
-    ensures value { OnOk result
-        (out.new ≡ more_field (codes "d") (json.Obj (obj_of (fields_of said.now))) out.old) }
-{
-    out.key("d")?;
-    out.open()?;
-    with_fields(alloc, out, said)?;
-    out.close()
-}
-
-#[tactic(auto, using(crate::proofs::SaidLemmas::message_closed))]
-fn with_message(alloc: Global, out: &mut JsonText, said: &Said) -> Result<(), NoMemory>
-    requires { IsSayable said.now }
-    ensures value { OnOk result (out.new ≡ more_item (said_json said.now) out.old) }
-{
-    out.open()?;
-    with_object(alloc, out, said)?;
-    out.int("op", op_of(said))?;
-    out.close()
-}
-
-/// The text of a message of obs-websocket 5, in compact JSON with keys in byte order.
-#[tactic(auto, using(mix_json::proofs::TextLemmas::whole))]
-pub fn said_text(alloc: Global, said: &Said) -> Result<Text, NoMemory>
-    requires sayable { IsSayable said.now }
-    ensures value { IfOk result (λ text. text ≡ said_text said.now) }
-{
-    let mut out = JsonText::new(alloc)?;
-    let Ok(()) = with_message(alloc, &mut out, said) else {
-        drop(out);
-        return Err(NoMemory);
-    };
-    out.write()
+    Ok(ListOf::from_vec(copies))
 }

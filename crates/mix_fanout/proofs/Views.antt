@@ -7,8 +7,8 @@ use Rattle.std.proofs.lemmas.List.Elements.{filter_map-append}
 use Rattle.slab.specs.Slab.{Slab, get}
 use Rattle.std.proofs.Common.{take, get_or, add-one, is_some, append-nil, ◌||◌}
 use Rattle.mix_model.specs.declared.event.Event.{Event}
-use Rattle.mix_model.specs.declared.said.Said.{Said}
-use Rattle.mix_model.specs.declared.said.Said.TheVariants.{Event as OfEvent}
+use Rattle.mix_events.specs.declared.said.Said.{Said}
+use Rattle.mix_events.specs.declared.said.Said.TheVariants.{Event as OfEvent}
 use Rattle.mix_events.specs.Events.{event_intent}
 use Rattle.mix_fanout.specs.declared.kept.Kept.{Kept}
 use Rattle.mix_fanout.specs.Lanes.{Lane, said_of, said_to, cut_of, is_cut, is_lane, is_but, masked}

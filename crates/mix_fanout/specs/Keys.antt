@@ -1,5 +1,5 @@
 -- Lists of keys in place of events: each event is kept once, under its key, with the number of
--- connections that it waits for.
+-- connections that it waits for, of which there is one at least.
 use Rattle.std.specs.Prelude.{◌≡◌, ℕ, ◌+◌, ◌-◌, ◌<◌, ◌≤◌, Bool, true, false, List, [], ◌∷◌, ◌++◌}
 use Rattle.std.specs.Prelude.{◌==◌, ◌&&◌, not, filter_map, option_map, length}
 use Rattle.std.specs.Prelude.{Option, Some, None, if◌then◌else◌, bit_and, nat_le}
@@ -57,8 +57,8 @@ abbrev pub HasRoom : ℕ → List Lined → Type 0
 HasRoom room [] = Unit {0}
 HasRoom room (l ∷ ls) = (room ≤ l.room) × HasRoom room ls
 
--- an event is held as often as its key stands in the lists, and there is room for so many more, in
--- the store and in each list
+-- an event is held as often as its key stands in the lists, so what is kept stands in one of them,
+-- and there is room for so many more, in the store and in each list
 pub record Holds (spare : ℕ) (store : Slab Kept) (ls : List Lined) : Type 0 where
   pub counts : (key : ℕ) → held store key ≡ total key ls
   pub store_room : HasRoomFor store spare

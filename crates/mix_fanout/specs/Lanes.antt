@@ -3,8 +3,8 @@ use Rattle.std.specs.Prelude.{ℕ, Bool, true, false, List, [], ◌∷◌, ◌++
 use Rattle.std.specs.Prelude.{Option, Some, None, if◌then◌else◌, bit_and, nat_le, length, find}
 use Rattle.std.specs.List.{list_any}
 use Rattle.mix_model.specs.declared.event.Event.{Event}
-use Rattle.mix_model.specs.declared.said.Said.{Said}
-use Rattle.mix_model.specs.declared.said.Said.TheVariants.{Event as OfEvent}
+use Rattle.mix_events.specs.declared.said.Said.{Said}
+use Rattle.mix_events.specs.declared.said.Said.TheVariants.{Event as OfEvent}
 use Rattle.mix_events.specs.Events.{event_intent}
 
 -- a joined connection: which events it wants, the events that wait for it in their order, and

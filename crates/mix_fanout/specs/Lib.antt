@@ -2,5 +2,3 @@
 pub mod Lanes
 -- lists of keys in place of events, and how many lists each key stands in
 pub mod Keys
--- families of events that one function copies
-pub mod Copies

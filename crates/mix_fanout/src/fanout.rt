@@ -9,8 +9,7 @@ use crate::lane::Lane;
 use crate::waiting::Waiting;
 use crate::{lanes, store};
 use mix_base::{ConnId, NoMemory};
-use mix_events::intent;
-use mix_model::Event;
+use mix_events::{ToldEvent, intent};
 use slab::Slab;
 use std::alloc::Global;
 use std::marker::Model;
@@ -145,14 +144,14 @@ impl Fanout {
     }
 
     /// Queues an event for each connection but one that is told of it.
-    pub fn post(&mut self, event: Event, but: Option<ConnId>)
+    pub fn post(&mut self, event: ToldEvent, but: Option<ConnId>)
         requires room { 1 ≤ self.old.spare }
         ensures lanes { self.new.lanes ≡ map (posted event but) self.old.lanes }
         ensures spare { self.new.spare ≡ self.old.spare - 1 }
         ensures limit { self.new.limit ≡ self.old.limit }
     {
         let key = self.store.vacant_key();
-        let holders = lanes::post(&mut self.lanes, key, intent(&event), number_of(but));
+        let holders = lanes::post(&mut self.lanes, key, intent(event.event()), number_of(but));
         store::take_in(&mut self.store, event, holders);
         self.spare -= 1;
     }

@@ -1,10 +1,13 @@
 //! An event that waits, kept once for all connections that it waits for.
-use mix_model::Event;
+ghost use Rattle.std.specs.Prelude.{◌<◌};
 
-/// An event that waits.
+use mix_events::ToldEvent;
+
+/// An event that waits for somebody.
 #[derive(Drop)]
 pub struct Kept {
-    pub event: Event,
-    /// For how many connections it waits.
+    pub event: ToldEvent,
+    /// For how many connections it waits: for one at least, so the last one lets it go.
     pub holders: usize,
+    ghost waits: { 0 < holders },
 }

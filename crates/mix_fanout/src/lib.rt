@@ -1,7 +1,6 @@
 //! The texts that wait for connections: who is told of which event, in which order, and who is cut.
 #![tactic(auto)]
 
-mod copy;
 mod fanout;
 mod kept;
 mod lane;

@@ -2,19 +2,18 @@
 ghost use Rattle.std.specs.Prelude.{◌≡◌, ◌≤◌, ◌<◌, ◌+◌, ℕ, [], ◌∷◌};
 ghost use Rattle.std.specs.Prelude.{IfOk, map, vec_capacity, vec_len};
 ghost use Rattle.slab.specs.Slab.{HasRoomFor};
-ghost use Rattle.mix_model.specs.declared.said.Said.TheVariants.{Event as OfEvent};
+ghost use Rattle.mix_events.specs.declared.said.Said.TheVariants.{Event as OfEvent};
 ghost use Rattle.mix_fanout.specs.Keys.{LetGo, TakesIn, events_of, held, keys_at, times};
 
-use crate::copy::copy_event;
 use crate::kept::Kept;
 use crate::lane::Lane;
 use mix_base::{ConnId, NoMemory};
-use mix_model::{Event, Said};
+use mix_events::{Said, ToldEvent};
 use slab::Slab;
 use std::alloc::Global;
 
 /// Keeps an event under the vacant key for so many connections, or lets it go where there is none.
-pub fn take_in(store: &mut Slab<Kept>, event: Event, holders: usize)
+pub fn take_in(store: &mut Slab<Kept>, event: ToldEvent, holders: usize)
     requires { HasRoomFor store.old 1 }
     ensures state { TakesIn store.old store.new store.old.vacant_key event holders }
 {
@@ -71,7 +70,7 @@ pub fn texts(
     let mut said = Vec::with_capacity(alloc, keys.len() + more as usize)?;
     for key in keys {
         if let Some(kept) = store.get(*key) {
-            let Ok(event) = copy_event(alloc, &kept.event) else {
+            let Ok(event) = kept.event.share() else {
                 drop(said);
                 return Err(NoMemory);
             };

@@ -1,5 +1,5 @@
 //! What waits for a connection.
-use mix_model::Said;
+use mix_events::Said;
 
 /// What waits for a connection. The texts are a `Vec` and no `SaidList`, since a `Vec` keeps the room
 /// for further texts: so many as were asked for go in by `push_reserved`, which takes no memory.

@@ -6,13 +6,12 @@ ghost use Rattle.mix_model.specs.Holders.{is_named, find_named, has_name};
 ghost use Rattle.mix_model.specs.Views.{IsView};
 ghost use Rattle.std.specs.Prelude.{IsTrue};
 ghost use Rattle.mix_model.specs.Rows.{serials_of};
-ghost use Rattle.mix_graph.specs.Asked.{is_next};
+ghost use Rattle.mix_model.specs.Sets.{is_next};
 
 use crate::Graph;
-use crate::search::serial_after;
-use crate::sources::Channel;
 use mix_base::{Name, Serial, Text};
 use mix_model::{Item, RowView};
+use mix_store::Channel;
 
 impl Graph {
     /// The named row of this name.
@@ -101,7 +100,7 @@ impl Graph {
     pub fn row_after(&self, serial: Serial) -> Option<Serial>
         ensures reply { IsTrue (is_next serial (serials_of self.now.present.rows) result) }
     {
-        serial_after(self.sources.rows(), serial)
+        self.sources.row_after(serial)
     }
 
     /// An item of a row, by its index from the bottom, counted from 0.

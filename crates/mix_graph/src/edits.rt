@@ -5,17 +5,15 @@ ghost use Rattle.mix_model.specs.Rows.{is_input, is_group};
 ghost use Rattle.mix_model.specs.Lookups.{row_passes};
 ghost use Rattle.mix_model.specs.Holders.{has_name, is_named, names};
 ghost use Rattle.mix_model.specs.Values.{is_place, is_sound, are_settings};
-ghost use Rattle.mix_model.specs.EditedShape.{EditedShape};
 ghost use Rattle.mix_model.specs.Marks.{edited};
-ghost use Rattle.mix_model.specs.Edits.{row_changed, item_removed, item_enabled, item_locked};
+ghost use Rattle.mix_model.specs.Edits.{item_removed, item_enabled, item_locked};
 ghost use Rattle.mix_model.specs.Edits.{item_placed, item_moved, input_set, renamed, source_removed};
-ghost use Rattle.mix_graph.specs.RowEdits.{row_edited};
 ghost use Rattle.mix_shape.specs.Refused.{is_missing, lacks_item};
 
-use crate::row_edit::{ItemEdit, RowEdit};
 use crate::{Graph, Missing};
 use mix_base::{ItemId, Name, Serial};
 use mix_model::{Blend, Place, Settings, Sound};
+use mix_store::{Edit, ItemEdit, RowEdit};
 
 /// Why a source isn't renamed; the causes are looked for in this order.
 #[derive(Clone, Copy)]
@@ -27,15 +25,6 @@ pub enum Rename {
 }
 
 impl Graph {
-    /// Edits a row, and settles.
-    pub(crate) fn edit_row(&mut self, serial: Serial, edit: RowEdit)
-        requires { EditedShape (row_changed serial (row_edited edit) self.old.present) }
-        ensures { self.new ≡ edited (row_changed serial (row_edited edit)) self.old }
-    {
-        self.sources.edit_row(self.alloc, serial, edit);
-        self.tally.settle(&mut self.sources);
-    }
-
     /// Takes an item out of its scene or group.
     #[tactic(auto, unfolding(mix_model::specs::Edits::item_removed))]
     pub fn remove_item(&mut self, parent: Serial, item: ItemId) -> Result<(), Missing>
@@ -46,7 +35,7 @@ impl Graph {
         if self.sources.lacks_item(parent, item) {
             return Err(Missing);
         }
-        self.edit_row(parent, RowEdit::Remove(item));
+        self.edit(Edit::Row(parent, RowEdit::Remove(item)));
         Ok(())
     }
 
@@ -65,7 +54,7 @@ impl Graph {
         if self.sources.lacks_item(parent, item) {
             return Err(Missing);
         }
-        self.edit_row(parent, RowEdit::Change(item, ItemEdit::Enabled(enabled)));
+        self.edit(Edit::Row(parent, RowEdit::Change(item, ItemEdit::Enabled(enabled))));
         Ok(())
     }
 
@@ -79,7 +68,7 @@ impl Graph {
         if self.sources.lacks_item(parent, item) {
             return Err(Missing);
         }
-        self.edit_row(parent, RowEdit::Change(item, ItemEdit::Locked(locked)));
+        self.edit(Edit::Row(parent, RowEdit::Change(item, ItemEdit::Locked(locked))));
         Ok(())
     }
 
@@ -94,7 +83,7 @@ impl Graph {
         if self.sources.lacks_item(parent, item) {
             return Err(Missing);
         }
-        self.edit_row(parent, RowEdit::Move(item, index));
+        self.edit(Edit::Row(parent, RowEdit::Move(item, index)));
         Ok(())
     }
 
@@ -116,10 +105,10 @@ impl Graph {
         if self.sources.lacks_item(parent, item) {
             return Err(Missing);
         }
-        self.edit_row(
+        self.edit(Edit::Row(
             parent,
             RowEdit::Change(item, ItemEdit::Placed(place, blend)),
-        );
+        ));
         Ok(())
     }
 
@@ -143,7 +132,7 @@ impl Graph {
             drop(settings);
             return Err(Missing);
         }
-        self.edit_row(serial, RowEdit::Set(settings, sound));
+        self.edit(Edit::Row(serial, RowEdit::Set(settings, sound)));
         Ok(())
     }
 
@@ -163,7 +152,7 @@ impl Graph {
         if self.sources.has_name(name.bytes()) {
             return Err(Rename::Exists);
         }
-        self.edit_row(serial, RowEdit::Rename(name));
+        self.edit(Edit::Row(serial, RowEdit::Rename(name)));
         Ok(())
     }
 
@@ -181,8 +170,7 @@ impl Graph {
         if !self.sources.is_named(serial) {
             return Err(Missing);
         }
-        self.sources.remove_source(self.alloc, serial);
-        self.tally.settle(&mut self.sources);
+        self.edit(Edit::Remove(serial));
         Ok(())
     }
 }

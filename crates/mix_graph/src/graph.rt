@@ -8,15 +8,16 @@ ghost use Rattle.mix_model.specs.Lookups.{row_of, named_by};
 ghost use Rattle.mix_model.specs.Holders.{is_named, find_named};
 ghost use Rattle.mix_model.specs.Walks.{is_active};
 ghost use Rattle.mix_model.specs.Views.{IsView};
+ghost use Rattle.mix_model.specs.EditedShape.{EditedShape};
+ghost use Rattle.mix_store.specs.Edited.{edited_by};
 ghost use Rattle.mix_model.specs.Marks.{edited, actions_begun, was_active, changes_by};
 ghost use Rattle.mix_model.specs.Edits.{scene_created, channel_set, clock_set, empty_graph};
 ghost use Rattle.mix_model.specs.Causes.{scene_cause};
 ghost use Rattle.mix_shape.specs.Refused.{RefusedBy, are_limits, may_be_set, is_missing};
 
-use crate::sources::Sources;
-use crate::tally::Tally;
 use mix_base::{Limits, Name, Serial};
 use mix_model::{Change, GraphFault};
+use mix_store::{Edit, Sources, Tally};
 use std::alloc::Global;
 use std::marker::Model;
 
@@ -35,7 +36,7 @@ pub struct Graph {
 
 impl Model for Graph {
     ghost use Rattle.mix_model.specs.Marks.{GraphModel};
-    ghost use Rattle.mix_graph.specs.Whole.{IsWhole};
+    ghost use Rattle.mix_store.specs.Whole.{IsWhole};
 
     ghost Value = { GraphModel };
 
@@ -57,6 +58,15 @@ impl Graph {
             sources: Sources::new(alloc),
             tally: Tally::new(alloc),
         }
+    }
+
+    /// Does an edit that takes no memory, and settles.
+    pub(crate) fn edit(&mut self, edit: Edit)
+        requires { EditedShape (edited_by edit self.old.present) }
+        ensures { self.new ≡ edited (edited_by edit) self.old }
+    {
+        self.sources.edit(self.alloc, edit);
+        self.tally.settle(&mut self.sources);
     }
 
     /// A scene, last in the registry.

@@ -6,12 +6,13 @@ ghost use Rattle.mix_model.specs.Walks.{upgrade, preview_row, is_active, is_show
 ghost use Rattle.mix_model.specs.Marks.{edited};
 ghost use Rattle.mix_model.specs.Causes.{hold_cause, watch_cause};
 ghost use Rattle.mix_model.specs.Edits.{hold_made, watch_made, hold_released, watch_dropped};
-ghost use Rattle.mix_model.specs.Edits.{frame_released, preview_set};
+ghost use Rattle.mix_model.specs.Edits.{frame_released, let_go, preview_set};
 ghost use Rattle.mix_shape.specs.Refused.{RefusedBy, is_missing, is_no_other};
 
 use crate::{Graph, Missing};
 use mix_base::Serial;
 use mix_model::GraphFault;
+use mix_store::Edit;
 
 impl Graph {
     /// Holds a named row, under an id of its own.
@@ -58,8 +59,7 @@ impl Graph {
         if !self.sources.has_hold(id) {
             return Err(Missing);
         }
-        self.sources.release_hold(id);
-        self.tally.settle(&mut self.sources);
+        self.edit(Edit::Release(id));
         Ok(())
     }
 
@@ -73,9 +73,16 @@ impl Graph {
         if !self.sources.has_watch(id) {
             return Err(Missing);
         }
-        self.sources.drop_watch(id);
-        self.tally.settle(&mut self.sources);
+        self.edit(Edit::Unwatch(id));
         Ok(())
+    }
+
+    /// Holds are released and watches dropped, as one edit; an id that none has is passed over.
+    pub fn let_go(&mut self, holds: &[u64], watches: &[u64])
+        ensures state { self.new ≡ edited (let_go holds.now watches.now) self.old }
+    {
+        self.sources.let_go(holds, watches);
+        self.tally.settle(&mut self.sources);
     }
 
     /// Ends a frame in flight.
@@ -88,8 +95,7 @@ impl Graph {
         if !self.sources.has_frame(number) {
             return Err(Missing);
         }
-        self.sources.release_frame(number);
-        self.tally.settle(&mut self.sources);
+        self.edit(Edit::End(number));
         Ok(())
     }
 
@@ -104,8 +110,7 @@ impl Graph {
         if self.sources.is_missing(&to) {
             return Err(Missing);
         }
-        self.sources.set_preview(to);
-        self.tally.settle(&mut self.sources);
+        self.edit(Edit::Preview(to));
         Ok(())
     }
 

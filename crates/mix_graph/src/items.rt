@@ -8,9 +8,9 @@ ghost use Rattle.mix_model.specs.Edits.{item_added, item_duplicated};
 ghost use Rattle.mix_shape.specs.Refused.{RefusedBy};
 
 use crate::Graph;
-use crate::added::spec_of;
 use mix_base::{ItemId, Serial};
 use mix_model::{GraphFault, ItemSpec};
+use mix_store::spec_of;
 
 impl Graph {
     /// Puts an item on top of a scene or group. It shows the child.

@@ -32,7 +32,7 @@ pub destroyed_unheld : (g : GraphState) → GraphShape g → (x : ℕ) (rest : L
     g.dying ≡ x ∷ rest → is_held g x ≡ false
 destroyed_unheld g shape x rest first =
     let rows : list_all (is_row g) (x ∷ rest) ≡ true =
-    subst (λ xs. list_all (is_row g) xs ≡ true) first shape.dying_rows in
+    subst (λ xs. list_all (is_row g) xs ≡ true) first shape.parts.dying.dying_rows in
     let here : has x (x ∷ rest) ≡ true = or_left _ _ (eq-eqb x x refl) in
     unheld_row g shape x (subst (λ xs. has x xs ≡ true) (sym first) here) (row_of g x) refl
     (and_first _ _ rows)

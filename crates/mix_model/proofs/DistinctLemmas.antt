@@ -107,18 +107,18 @@ serials_there rows =
     all_members (has_row rows) (serials_of rows) (λ x here. row_is_listed rows x ∙ here)
 
 -- what all pass, all of a part pass
-passed_head : (q : ℕ → Bool) (b : Bool) (x : ℕ) (kept : List ℕ) → (b ≡ true → q x ≡ true) →
-    list_all q kept ≡ true → list_all q (cond b (x ∷ kept) kept) ≡ true
+passed_head : {X : Type 0} (q : X → Bool) (b : Bool) (x : X) (kept : List X) →
+    (b ≡ true → q x ≡ true) → list_all q kept ≡ true → list_all q (cond b (x ∷ kept) kept) ≡ true
 passed_head q true x kept here rest = and_both _ _ (here refl) rest
 passed_head q false x kept here rest = rest
 
-pub all_filter : (q p : ℕ → Bool) (xs : List ℕ) → list_all q xs ≡ true →
+pub all_filter : {X : Type 0} (q p : X → Bool) (xs : List X) → list_all q xs ≡ true →
     list_all q (filter p xs) ≡ true
 all_filter q p [] all = refl
 all_filter q p (x ∷ xs) all = passed_head q (p x) x (filter p xs) (λ here. and_first _ _ all)
     (all_filter q p xs (and_second _ _ all))
 
 -- what each of a part passed
-pub filter_passes : (p : ℕ → Bool) (xs : List ℕ) → list_all p (filter p xs) ≡ true
+pub filter_passes : {X : Type 0} (p : X → Bool) (xs : List X) → list_all p (filter p xs) ≡ true
 filter_passes p [] = refl
 filter_passes p (x ∷ xs) = passed_head p (p x) x (filter p xs) (λ here. here) (filter_passes p xs)

@@ -29,7 +29,7 @@ items_fall f h n same (i ∷ items) m most below =
     (items_fall f h n same items m most (omega (arith, below)))
 
 -- a list that rises above a number rises above each lower one
-rises_lower : (m n : ℕ) (xs : List ℕ) → m < n → rises_above n xs ≡ true →
+pub rises_lower : (m n : ℕ) (xs : List ℕ) → m < n → rises_above n xs ≡ true →
     rises_above m xs ≡ true
 rises_lower m n [] low h = refl
 rises_lower m n (x ∷ xs) low h =
@@ -37,7 +37,7 @@ rises_lower m n (x ∷ xs) low h =
     and_both _ _ (lt-ltb m x (omega (arith, low, above))) (and_second _ _ h)
 
 -- rows whose serials rise above a number are all above it
-rises_all : (m : ℕ) (rows : List Row) → rises_above m (serials_of rows) ≡ true →
+pub rises_all : (m : ℕ) (rows : List Row) → rises_above m (serials_of rows) ≡ true →
     list_all (λ t. nat_lt m t.serial) rows ≡ true
 rises_all m [] h = refl
 rises_all m (s ∷ rows) h = and_both _ _ (and_first _ _ h) (rises_all m rows

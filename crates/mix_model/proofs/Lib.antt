@@ -30,6 +30,10 @@ pub mod DrawingLemmas
 pub mod FilledLemmas
 -- what is heard is what is active
 pub mod VoiceLemmas
+-- ranks and weights are the same where the insides are alike
+pub mod AlikeLemmas
+-- changes of rows that keep serials and kinds, and what is seen of rows by their serials
+pub mod SteadyLemmas
 -- changes of rows that serials, kinds, children and ids don't see
 pub mod BlindLemmas
 -- such changes keep what holds of the sources

@@ -1,6 +1,6 @@
 -- Lists of numbers as sets, and tests of their members.
 use Rattle.std.proofs.Common.{◌≡◌, ℕ, Bool, true, false, cond, ◌&&◌, ◌||◌, ◌⊎◌, inl, inr, List, []}
-use Rattle.std.proofs.Common.{◌∷◌, Some, refl, sym, subst, eqb-true, eq-eqb, find}
+use Rattle.std.proofs.Common.{◌∷◌, Some, refl, sym, subst, eqb-true, eq-eqb, find, not}
 use Rattle.std.specs.List.{list_any, list_all}
 use Rattle.mix_model.specs.Sets.{has}
 
@@ -27,6 +27,29 @@ and_first false b h = cc
 pub and_second : (a b : Bool) → (a && b) ≡ true → b ≡ true
 and_second true b h = h
 and_second false b h = cc
+
+-- what holds of a part of two, of both
+pub or_imply : (a b c d : Bool) → (a ≡ true → c ≡ true) → (b ≡ true → d ≡ true) →
+    (a || b) ≡ true → (c || d) ≡ true
+or_imply true b c d first second h = or_left c d (first refl)
+or_imply false b c d first second h = or_right c d (second h)
+
+pub and_imply : (a b c d : Bool) → (a ≡ true → c ≡ true) → (b ≡ true → d ≡ true) →
+    (a && b) ≡ true → (c && d) ≡ true
+and_imply a b c d first second h =
+    and_both c d (first (and_first a b h)) (second (and_second a b h))
+
+pub not_imply : (a b : Bool) → (b ≡ true → a ≡ true) → not a ≡ true → not b ≡ true
+not_imply true b imply h = cc
+not_imply false true imply h = imply refl
+not_imply false false imply h = refl
+
+-- what holds of each element that passed a test holds of all where all passed it
+pub all_imply : {X : Type 0} (p q : X → Bool) → ((x : X) → p x ≡ true → q x ≡ true) →
+    (xs : List X) → list_all p xs ≡ true → list_all q xs ≡ true
+all_imply p q imply [] all = refl
+all_imply p q imply (x ∷ xs) all =
+    and_both _ _ (imply x (and_first _ _ all)) (all_imply p q imply xs (and_second _ _ all))
 
 -- a test that some member passes is passed by one
 pub any_member : (p : ℕ → Bool) (xs : List ℕ) → list_any p xs ≡ true →

@@ -139,6 +139,14 @@ hold_released id g = record g { holds = filter (λ h. not (h.id == id)) g.holds 
 unfoldable pub watch_dropped : ℕ → GraphState → GraphState
 watch_dropped id g = record g { watches = filter (λ w. not (w.id == id)) g.watches }
 
+-- holds are released and watches are dropped, as one edit: so the rows that lose their last holder
+-- begin to die by rising serial
+unfoldable pub let_go : List ℕ → List ℕ → GraphState → GraphState
+let_go holds watches g = record g {
+  holds = filter (λ h. not (has h.id holds)) g.holds;
+  watches = filter (λ w. not (has w.id watches)) g.watches;
+}
+
 unfoldable pub frame_released : ℕ → GraphState → GraphState
 frame_released number g = record g { frames = filter (λ f. not (f.number == number)) g.frames }
 

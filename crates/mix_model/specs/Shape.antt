@@ -7,8 +7,8 @@ use Rattle.mix_base.specs.Limits.{standard}
 use Rattle.mix_model.specs.declared.row.Row.{Row}
 use Rattle.mix_model.specs.Sets.{has, is_distinct, rises_above, agree}
 use Rattle.mix_model.specs.Rows.{is_scene, is_group, is_input, all_items, has_items, serials_of}
-use Rattle.mix_model.specs.State.{GraphState, Channel}
-use Rattle.mix_model.specs.Lookups.{row_passes, is_row, registry, named_by}
+use Rattle.mix_model.specs.State.{GraphState, Channel, Hold, Watch, Frame}
+use Rattle.mix_model.specs.Lookups.{row_passes, is_row, has_row, registry, named_by}
 use Rattle.mix_model.specs.Holders.{is_held, is_named_row}
 use Rattle.mix_model.specs.Ranks.{ranks_fall, ranks_within, weights_within}
 use Rattle.mix_model.specs.Values.{are_settings, is_sound, is_place}
@@ -54,52 +54,90 @@ is_preview g None = true
 is_preview g (Some x) =
     nat_lt x g.next_serial && (not (is_row g x) || row_passes g (λ r. is_scene r.kind) x)
 
--- what holds of the sources of every mixer
-pub record GraphShape (g : GraphState) : Type 0 where
+-- the rows, one by one
+pub record RowsFit (g : GraphState) : Type 0 where
   -- serials rise from 1 and are below the next one
   pub serials_rise : IsTrue (rises_above 0 (serials_of g.rows))
   pub serials_start : IsTrue (nat_lt 0 g.next_serial)
   pub serials_below : IsTrue (list_all (λ x. nat_lt x g.next_serial) (serials_of g.rows))
-  -- the ids of items within their row, of holds, watches and frames in flight
+  -- the ids of items within their row
   pub item_ids : IsTrue (list_all (λ r. ids_below r.next_item (map (λ i. i.id) r.items)) g.rows)
-  pub hold_ids : IsTrue (ids_below g.next_hold (map (λ h. h.id) g.holds))
-  pub watch_ids : IsTrue (ids_below g.next_watch (map (λ w. w.id) g.watches))
-  pub frame_numbers : IsTrue (is_distinct (map (λ f. f.number) g.frames))
-  -- what is held is a row; what is watched was one
-  pub holds_rows : IsTrue (are_rows g (map (λ h. h.serial) g.holds))
-  pub frames_rows : IsTrue (list_all (λ f. are_rows g f.serials) g.frames)
-  pub frames_once : IsTrue (list_all (λ f. is_distinct f.serials) g.frames)
-  pub watched_before : IsTrue (list_all (λ w. nat_lt w.serial g.next_serial) g.watches)
-  -- the registry names scenes and inputs, each once
-  pub scenes_scenes : IsTrue (list_all (row_passes g (λ r. is_scene r.kind)) g.scenes)
-  pub inputs_inputs : IsTrue (list_all (row_passes g (λ r. is_input r.kind)) g.inputs)
-  pub registry_once : IsTrue (is_distinct (registry g))
-  -- each item's child is a row, in the registry or a group; ranks fall along every item
+  -- each item's child is a row, in the registry or a group; inputs have no items
   pub children_rows : IsTrue (all_items (λ r i. is_row g i.child && is_child g i.child) g.rows)
-  pub falling : IsTrue (ranks_fall g)
   pub inputs_bare : IsTrue (inputs_are_bare g)
-  -- sixty-four channels; what they name, and the preview
-  pub channel_count : IsTrue (length g.channels == 64)
-  pub program_channel : IsTrue (list_all (is_program_channel g) (take 1 g.channels))
-  pub side_channels : IsTrue (list_all (is_side_channel g) (drop 1 g.channels))
-  pub preview_scene : IsTrue (is_preview g g.preview)
-  -- named rows have different names
-  pub names : IsTrue (names_differ (filter (is_named_row g) g.rows))
-  -- what dies is exactly the rows without a holder, each once
-  pub dying_rows : IsTrue (are_rows g g.dying)
-  pub dying_unheld : IsTrue (list_all (λ r. agree (has r.serial g.dying) (not (is_held g r.serial)))
-      g.rows)
-  pub dying_once : IsTrue (is_distinct g.dying)
   -- the values of rows and items
-  pub since_past : IsTrue (list_all (λ r. nat_le r.since g.clock) g.rows)
   pub settings_fit : IsTrue (list_all (λ r. are_settings r.kind r.settings && is_sound r.sound)
       g.rows)
   pub places_fit : IsTrue (all_items (λ r i. is_place i.place) g.rows)
-  -- the limits
+
+-- the registry names scenes and inputs, each once
+pub record RegistryFits (g : GraphState) : Type 0 where
+  pub scenes_scenes : IsTrue (list_all (row_passes g (λ r. is_scene r.kind)) g.scenes)
+  pub inputs_inputs : IsTrue (list_all (row_passes g (λ r. is_input r.kind)) g.inputs)
+  pub registry_once : IsTrue (is_distinct (registry g))
+
+-- few holds, each under an id of its own and on a row
+pub record HoldsFit (rows : List Row) (holds : List Hold) (next : ℕ) : Type 0 where
+  pub hold_ids : IsTrue (ids_below next (map (λ h. h.id) holds))
+  pub holds_rows : IsTrue (list_all (has_row rows) (map (λ h. h.serial) holds))
+  pub few_holds : IsTrue (nat_le (length holds) standard.holds)
+
+-- few watches, each under an id of its own; what is watched was a row
+pub record WatchesFit (watches : List Watch) (next next_serial : ℕ) : Type 0 where
+  pub watch_ids : IsTrue (ids_below next (map (λ w. w.id) watches))
+  pub watched_before : IsTrue (list_all (λ w. nat_lt w.serial next_serial) watches)
+  pub few_watches : IsTrue (nat_le (length watches) standard.watches)
+
+-- few frames in flight, each of a number of its own; what they list is rows, each once
+pub record FramesFit (rows : List Row) (frames : List Frame) : Type 0 where
+  pub frame_numbers : IsTrue (is_distinct (map (λ f. f.number) frames))
+  pub frames_rows : IsTrue (list_all (λ f. list_all (has_row rows) f.serials) frames)
+  pub frames_once : IsTrue (list_all (λ f. is_distinct f.serials) frames)
+  pub few_frames : IsTrue (nat_le (length frames) standard.frames)
+
+-- sixty-four channels, and what they name
+pub record ChannelsFit (g : GraphState) (channels : List Channel) : Type 0 where
+  pub channel_count : IsTrue (length channels == 64)
+  pub program_channel : IsTrue (list_all (is_program_channel g) (take 1 channels))
+  pub side_channels : IsTrue (list_all (is_side_channel g) (drop 1 channels))
+
+-- what is beside rows and registry
+pub record BesideFits (g : GraphState) : Type 0 where
+  pub holds : HoldsFit g.rows g.holds g.next_hold
+  pub watches : WatchesFit g.watches g.next_watch g.next_serial
+  pub frames : FramesFit g.rows g.frames
+  pub channels : ChannelsFit g g.channels
+  pub preview_scene : IsTrue (is_preview g g.preview)
+
+-- what dies is rows, each once, and nothing holds them
+pub record DyingFits (g : GraphState) : Type 0 where
+  pub dying_rows : IsTrue (are_rows g g.dying)
+  pub none_held : IsTrue (list_all (λ x. not (is_held g x)) g.dying)
+  pub dying_once : IsTrue (is_distinct g.dying)
+
+-- what an edit keeps of itself: all but names and limits
+pub record PartsFit (g : GraphState) : Type 0 where
+  pub rows : RowsFit g
+  pub registry : RegistryFits g
+  pub beside : BesideFits g
+  pub dying : DyingFits g
+
+-- the limits of rows, and ranks that fall along every item
+pub record LimitsKept (g : GraphState) : Type 0 where
   pub few_rows : IsTrue (nat_le (length g.rows) standard.rows)
   pub few_items : IsTrue (nat_le (item_count g.rows) standard.items)
   pub light : IsTrue (weights_within standard.weight g)
   pub shallow : IsTrue (ranks_within standard.rank g)
-  pub few_frames : IsTrue (nat_le (length g.frames) standard.frames)
-  pub few_holds : IsTrue (nat_le (length g.holds) standard.holds)
-  pub few_watches : IsTrue (nat_le (length g.watches) standard.watches)
+  pub falling : IsTrue (ranks_fall g)
+
+-- what holds of the sources of every mixer
+pub record GraphShape (g : GraphState) : Type 0 where
+  pub parts : PartsFit g
+  pub limits : LimitsKept g
+  -- named rows have different names
+  pub names : IsTrue (names_differ (filter (is_named_row g) g.rows))
+  -- what dies is exactly the rows without a holder
+  pub dying_unheld : IsTrue (list_all (λ r. agree (has r.serial g.dying) (not (is_held g r.serial)))
+      g.rows)
+  -- nobody became active later than now
+  pub since_past : IsTrue (list_all (λ r. nat_le r.since g.clock) g.rows)

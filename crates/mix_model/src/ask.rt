@@ -1,6 +1,10 @@
 //! What a connection asks for, and what was done about it.
-use crate::{AskList, Body};
-use mix_base::{Json, Text};
+ghost use Rattle.std.specs.Prelude.{◌≡◌, IfOk};
+
+use crate::copies::{copy_json, share_text};
+use crate::{AskList, Body, DoneList};
+use mix_base::{Json, ListOf, NoMemory, Text};
+use std::alloc::Global;
 
 /// A request. A missing kind can only stand in a batch, where it is a fault.
 #[derive(Drop)]
@@ -32,4 +36,95 @@ pub struct Done {
     /// The number of `requestStatus`; 100 says that it was done.
     pub status: u16,
     pub response: Option<Json>,
+}
+
+impl Ask {
+    pub fn copy(&self, alloc: Global) -> Result<Ask, NoMemory>
+        ensures value { IfOk result (λ copy. copy ≡ self.now) }
+    {
+        let kind = share_text(&self.kind)?;
+        let Ok(id) = share_text(&self.id) else {
+            drop(kind);
+            return Err(NoMemory);
+        };
+        let Ok(body) = self.body.copy(alloc) else {
+            drop(kind);
+            drop(id);
+            return Err(NoMemory);
+        };
+        Ok(Ask { kind, id, body })
+    }
+}
+
+/// The same requests once more.
+fn copy_asks(alloc: Global, asks: &AskList) -> Result<AskList, NoMemory>
+    ensures value { IfOk result (λ copy. copy ≡ asks.now) }
+{
+    let asks = asks.as_slice();
+    let mut copies = Vec::with_capacity(alloc, asks.len())?;
+    for ask in asks {
+        let Ok(copy) = ask.copy(alloc) else {
+            drop(copies);
+            return Err(NoMemory);
+        };
+        copies.push_reserved(copy);
+    }
+    Ok(ListOf::from_vec(copies))
+}
+
+impl BatchAsk {
+    pub fn copy(&self, alloc: Global) -> Result<BatchAsk, NoMemory>
+        ensures value { IfOk result (λ copy. copy ≡ self.now) }
+    {
+        let id = self.id.share()?;
+        let Ok(asks) = copy_asks(alloc, &self.asks) else {
+            drop(id);
+            return Err(NoMemory);
+        };
+        Ok(BatchAsk {
+            id,
+            halt: self.halt,
+            by_frame: self.by_frame,
+            asks,
+        })
+    }
+}
+
+impl Done {
+    pub fn copy(&self, alloc: Global) -> Result<Done, NoMemory>
+        ensures value { IfOk result (λ copy. copy ≡ self.now) }
+    {
+        let kind = self.kind.share()?;
+        let Ok(id) = share_text(&self.id) else {
+            drop(kind);
+            return Err(NoMemory);
+        };
+        let Ok(response) = copy_json(alloc, &self.response) else {
+            drop(kind);
+            drop(id);
+            return Err(NoMemory);
+        };
+        Ok(Done {
+            kind,
+            id,
+            status: self.status,
+            response,
+        })
+    }
+}
+
+/// The same results once more.
+pub fn copy_dones(alloc: Global, dones: &DoneList) -> Result<DoneList, NoMemory>
+    ensures value { IfOk result (λ copy. copy ≡ dones.now) }
+{
+    let dones = dones.as_slice();
+    let mut copies = Vec::with_capacity(alloc, dones.len())?;
+    for done in dones {
+        let Ok(copy) = done.copy(alloc) else {
+            drop(copies);
+            return Err(NoMemory);
+        };
+        copies.push_reserved(copy);
+    }
+    Ok(ListOf::from_vec(copies))
 }

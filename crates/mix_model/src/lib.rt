@@ -17,9 +17,7 @@ mod message;
 mod notes;
 mod picture;
 mod place;
-mod reply;
 mod row;
-mod said;
 mod settings;
 mod tree;
 mod voice;
@@ -28,12 +26,12 @@ pub mod worked;
 pub mod worked_pictures;
 
 pub use action::{Action, Entry};
-pub use ask::{Ask, BatchAsk, Done};
+pub use ask::{Ask, BatchAsk, Done, copy_dones};
 pub use body::Body;
 pub use change::Change;
 pub use collection::{Collection, Line};
 pub use draw::{Draw, Shot, Step};
-pub use event::{Event, Twin};
+pub use event::Event;
 pub use fault::GraphFault;
 pub use item::{Item, ItemSpec};
 pub use kind::{Blend, Kind};
@@ -42,12 +40,10 @@ use mix_base::{ItemId, ListOf};
 pub use notes::{Note, Notes};
 pub use picture::{Block, Picture};
 pub use place::{Place, Sound};
-pub use reply::{Answer, Reply};
 pub use row::{Row, RowView};
-pub use said::{Login, Said};
 pub use settings::Settings;
 pub use tree::Tree;
-pub use voice::Voice;
+pub use voice::{Voice, copy_voices};
 pub use words::{RecordWord, Transition};
 
 /// Items of a scene or group, from bottom to top.
@@ -68,9 +64,5 @@ pub type VoiceList = ListOf<Voice>;
 pub type AskList = ListOf<Ask>;
 /// Results of a batch in the order of its requests.
 pub type DoneList = ListOf<Done>;
-/// What a connection is told, in order.
-pub type SaidList = ListOf<Said>;
-/// Events in order, each twice.
-pub type TwinList = ListOf<Twin>;
 /// Ids of items, from bottom to top.
 pub type IdList = ListOf<ItemId>;

@@ -1,8 +1,9 @@
 //! An input that is heard.
 ghost use Rattle.std.specs.Prelude.{◌≡◌, IfOk};
 
-use crate::{Settings, Sound};
-use mix_base::NoMemory;
+use crate::{Settings, Sound, VoiceList};
+use mix_base::{ListOf, NoMemory};
+use std::alloc::Global;
 
 /// An input that is heard, with the weight `w` of `n`.
 #[derive(Drop)]
@@ -24,4 +25,20 @@ impl Voice {
             n: self.n,
         })
     }
+}
+
+/// The same voices once more.
+pub fn copy_voices(alloc: Global, voices: &VoiceList) -> Result<VoiceList, NoMemory>
+    ensures value { IfOk result (λ copy. copy ≡ voices.now) }
+{
+    let voices = voices.as_slice();
+    let mut copies = Vec::with_capacity(alloc, voices.len())?;
+    for voice in voices {
+        let Ok(copy) = voice.copy() else {
+            drop(copies);
+            return Err(NoMemory);
+        };
+        copies.push_reserved(copy);
+    }
+    Ok(ListOf::from_vec(copies))
 }

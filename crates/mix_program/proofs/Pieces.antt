@@ -3,7 +3,7 @@ use Rattle.std.proofs.Common.{◌≡◌, ℕ, List, [], ◌∷◌, ◌++◌, ref
 use Rattle.std.proofs.Common.{zero, suc, subst}
 use Rattle.std.proofs.lemmas.List.{append-nil, append_assoc}
 use Rattle.mix_outside.specs.Bytes.{AppendsPrefix}
-use Rattle.mix_model.specs.declared.said.Said.{Said}
+use Rattle.mix_events.specs.declared.said.Said.{Said}
 use Rattle.mix_program.specs.Output.{text_line, told_lines}
 use Rattle.mix_program.specs.Ends.{Puts}
 use Rattle.mix_program.specs.declared.running.Wrote.{Wrote}

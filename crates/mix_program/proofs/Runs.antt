@@ -13,13 +13,13 @@ use Rattle.mix_outside.specs.Meeting.{FitsIn, Meets}
 use Rattle.mix_base.specs.declared.limits.Limits.{Limits}
 use Rattle.mix_model.specs.declared.action.Action.{Action}
 use Rattle.mix_model.specs.declared.action.Entry.{Entry}
-use Rattle.mix_model.specs.declared.said.Said.{Said}
-use Rattle.mix_model.specs.declared.reply.Reply.{Reply}
+use Rattle.mix_events.specs.declared.said.Said.{Said}
+use Rattle.mix_events.specs.declared.reply.Reply.{Reply}
 use Rattle.mix_script.specs.Lines.{action_of}
 use Rattle.mix_script.specs.declared.bad_line.BadLine.{BadLine}
-use Rattle.mix_engine.specs.declared.own.Own.{Own}
-use Rattle.mix_engine.specs.declared.own.Own.TheVariants as own
-use Rattle.mix_model.specs.declared.reply.Answer.{Answer}
+use Rattle.mix_engine.specs.declared.heading.Heading.{Heading}
+use Rattle.mix_engine.specs.declared.heading.Heading.TheVariants as heading
+use Rattle.mix_events.specs.declared.reply.Answer.{Answer}
 use Rattle.mix_engine.specs.Engines.{EngineModel}
 use Rattle.mix_engine.specs.Engines.{acted, with_entry, present, line_bytes, text_bytes}
 use Rattle.mix_engine.specs.Answers.{Agrees, answer_to}
@@ -92,42 +92,44 @@ goes_ends ends.WriteFault old mid new all rest f g = stops_more old mid new all 
 goes_ends ends.NoMemory old mid new all rest f g = stops_more old mid new all rest f g
 
 -- a reply has the lines of what its entry is answered, on the canvas of the studio that was found
-reply_has : (canvas : ℕ × ℕ) (o : Own) (found : StudioState) (told : List Said) (due : Bool)
+reply_has : (canvas : ℕ × ℕ) (o : Heading) (found : StudioState) (told : List Said) (due : Bool)
     (reply : Reply) → canvas ≡ found.canvas → Replies o found told due reply →
     reply_lines canvas reply ≡ lines_by o found told
-reply_has canvas own.Full found told due reply same h = ap (reply_lines canvas) h
-reply_has canvas (own.Gone conn) found told due reply same h = ap (reply_lines canvas) h
-reply_has canvas (own.Left conn) found told due reply same h = ap (reply_lines canvas) h
-reply_has canvas (own.Told conn) found told due reply same h = ap (reply_lines canvas) h
-reply_has canvas (own.Closed conn code) found told due reply same h = ap (reply_lines canvas) h
-reply_has canvas (own.Frame number recording) found told due reply same h =
+reply_has canvas heading.Full found told due reply same h = ap (reply_lines canvas) h
+reply_has canvas (heading.Gone conn) found told due reply same h = ap (reply_lines canvas) h
+reply_has canvas (heading.Left conn) found told due reply same h = ap (reply_lines canvas) h
+reply_has canvas (heading.Told conn) found told due reply same h = ap (reply_lines canvas) h
+reply_has canvas (heading.Closed conn code) found told due reply same h = ap (reply_lines canvas) h
+reply_has canvas (heading.Frame number recording) found told due reply same h =
     ap (reply_lines canvas) h.2
     ∙ ap (frame_line number) (ap (painted h.0 number) same ∙ h.1.picture)
-reply_has canvas own.NoFrame found told due reply same h = ap (reply_lines canvas) h
-reply_has canvas (own.Block number recording) found told due reply same h =
-    ap (reply_lines canvas) h.1
-reply_has canvas (own.FrameGone number) found told due reply same h = ap (reply_lines canvas) h
-reply_has canvas own.NoSuchFrame found told due reply same h = ap (reply_lines canvas) h
-reply_has canvas (own.Destroyed serial) found told due reply same h = ap (reply_lines canvas) h
-reply_has canvas own.Nothing found told due reply same h = ap (reply_lines canvas) h
+reply_has canvas heading.NoFrame found told due reply same h = ap (reply_lines canvas) h
+reply_has canvas (heading.Block number recording) found told due reply same h =
+    ap (reply_lines canvas) h.2
+reply_has canvas (heading.FrameGone number) found told due reply same h = ap (reply_lines canvas) h
+reply_has canvas heading.NoSuchFrame found told due reply same h = ap (reply_lines canvas) h
+reply_has canvas (heading.Destroyed serial) found told due reply same h = ap (reply_lines canvas) h
+reply_has canvas heading.Nothing found told due reply same h = ap (reply_lines canvas) h
+reply_has canvas heading.NotBuilt found told due reply same h = absurd h
 
 -- the shot of a reply can be painted
-pub reply_paintable : (o : Own) (found : StudioState) (told : List Said) (due : Bool)
+pub reply_paintable : (o : Heading) (found : StudioState) (told : List Said) (due : Bool)
     (reply : Reply) → Replies o found told due reply → IsPaintable reply
-reply_paintable own.Full found told due reply h = subst IsPaintable (sym h) tt
-reply_paintable (own.Gone conn) found told due reply h = subst IsPaintable (sym h) tt
-reply_paintable (own.Left conn) found told due reply h = subst IsPaintable (sym h) tt
-reply_paintable (own.Told conn) found told due reply h = subst IsPaintable (sym h) tt
-reply_paintable (own.Closed conn code) found told due reply h = subst IsPaintable (sym h) tt
-reply_paintable (own.Frame number recording) found told due reply h =
+reply_paintable heading.Full found told due reply h = subst IsPaintable (sym h) tt
+reply_paintable (heading.Gone conn) found told due reply h = subst IsPaintable (sym h) tt
+reply_paintable (heading.Left conn) found told due reply h = subst IsPaintable (sym h) tt
+reply_paintable (heading.Told conn) found told due reply h = subst IsPaintable (sym h) tt
+reply_paintable (heading.Closed conn code) found told due reply h = subst IsPaintable (sym h) tt
+reply_paintable (heading.Frame number recording) found told due reply h =
     subst IsPaintable (sym h.2) h.1.paintable
-reply_paintable own.NoFrame found told due reply h = subst IsPaintable (sym h) tt
-reply_paintable (own.Block number recording) found told due reply h =
-    subst IsPaintable (sym h.1) tt
-reply_paintable (own.FrameGone number) found told due reply h = subst IsPaintable (sym h) tt
-reply_paintable own.NoSuchFrame found told due reply h = subst IsPaintable (sym h) tt
-reply_paintable (own.Destroyed serial) found told due reply h = subst IsPaintable (sym h) tt
-reply_paintable own.Nothing found told due reply h = subst IsPaintable (sym h) tt
+reply_paintable heading.NoFrame found told due reply h = subst IsPaintable (sym h) tt
+reply_paintable (heading.Block number recording) found told due reply h =
+    subst IsPaintable (sym h.2) tt
+reply_paintable (heading.FrameGone number) found told due reply h = subst IsPaintable (sym h) tt
+reply_paintable heading.NoSuchFrame found told due reply h = subst IsPaintable (sym h) tt
+reply_paintable (heading.Destroyed serial) found told due reply h = subst IsPaintable (sym h) tt
+reply_paintable heading.Nothing found told due reply h = subst IsPaintable (sym h) tt
+reply_paintable heading.NotBuilt found told due reply h = absurd h
 
 turn_built : (start : Mixer) (journal : List Entry) (action : Action)
     (rest : List Entry → Written) → is_built (state_after start journal) action ≡ true →
@@ -149,7 +151,7 @@ pub turn_goes : (canvas : ℕ × ℕ) (start : Mixer) (journal after : List Entr
     canvas ≡ (state_after start journal).studio.canvas →
     is_built (state_after start journal) action ≡ true →
     (let a : Answered = answer_to start journal action in
-    Replies a.own a.found a.told a.due reply) →
+    Replies a.heading a.found a.told a.due reply) →
     after ≡ journal ++ entry_of journal action ∷ [] → new ≡ old ++ reply_lines canvas reply →
     Goes old new (turn start journal (Ok action) rest) (rest after)
 turn_goes canvas start journal after action reply rest old new same built replies is_after held =
@@ -166,7 +168,7 @@ pub turn_stops : (canvas : ℕ × ℕ) (start : Mixer) (journal : List Entry) (a
     canvas ≡ (state_after start journal).studio.canvas →
     is_built (state_after start journal) action ≡ true →
     (let a : Answered = answer_to start journal action in
-    Replies a.own a.found a.told a.due reply) →
+    Replies a.heading a.found a.told a.due reply) →
     AppendsPrefix (reply_lines canvas reply) old new →
     Stops old new (turn start journal (Ok action) rest)
 turn_stops canvas start journal action reply rest old new same built replies h = record {

@@ -1,4 +1,5 @@
 -- reading and writing of escaped texts
+pub mod FindLemmas
 pub mod EscapeLemmas
 -- numbers and their digits
 pub mod NumberLemmas

@@ -6,6 +6,7 @@ ghost use Rattle.mix_script.specs.Reading.{Reads};
 ghost use Rattle.mix_script.specs.Lines.{text_of, or_text, in_utf8};
 
 use crate::BadLine;
+use memchr::memchr2;
 use mix_base::{Bytes, ListOf, NoMemory, Text};
 use std::alloc::Global;
 
@@ -13,18 +14,18 @@ use std::alloc::Global;
 pub fn has_special(text: &[u8]) -> bool
     ensures { result ≡ list_any is_special text.now }
 {
-    text.iter().any(|b| *b == b'\\' || *b == b'\n')
+    memchr2(b'\\', b'\n', text).is_some()
 }
 
 /// A text as it stands in a line: a backslash is written twice, and a line feed as `\n`. One without
-/// either is copied once.
-pub fn escape(alloc: Global, text: &str) -> Result<String, NoMemory>
-    ensures value { IfOk result (λ written. string_bytes written ≡ escaped text.now) }
+/// either is shared.
+pub fn escape(alloc: Global, text: &Text) -> Result<Text, NoMemory>
+    ensures value { IfOk result (λ written. written ≡ escaped text.now) }
 {
-    if has_special(text.as_bytes()) {
-        escape_special(alloc, text)
+    if has_special(text.bytes()) {
+        Text::from_string(escape_special(alloc, text.as_str())?)
     } else {
-        Ok(String::from_str(alloc, text)?)
+        text.share()
     }
 }
 

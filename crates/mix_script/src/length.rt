@@ -4,6 +4,7 @@ ghost use Rattle.mix_script.specs.Escapes.{escaped, is_special};
 ghost use Rattle.mix_script.specs.Lines.{line_text, arrival_text, said_text};
 
 use crate::digits::is_unset;
+use memchr::memchr2_iter;
 use mix_base::{Bytes32, ConnId};
 use mix_model::{Action, Message};
 
@@ -52,7 +53,7 @@ fn specials(text: &[u8]) -> usize
     ensures value { result ≡ count_by is_special text.now }
     ensures within { result ≤ length text.now }
 {
-    text.iter().filter(|b| **b == b'\\' || **b == b'\n').count()
+    memchr2_iter(b'\\', b'\n', text).count()
 }
 
 /// How many decimal digits a number has.

@@ -3,7 +3,7 @@ ghost use Rattle.std.specs.Prelude.{◌≡◌, ◌++◌, IfOk, codes, decimal, s
 ghost use Rattle.mix_script.specs.Lines.{line_text, arrival_text, said_text};
 
 use crate::digits::is_unset;
-use crate::escaping::{escape, has_special};
+use crate::escaping::escape;
 use mix_base::{Bytes, Bytes32, ConnId, NoMemory, Text};
 use mix_model::{Action, Message};
 use std::alloc::Global;
@@ -73,12 +73,10 @@ fn arrival_line(alloc: Global, challenge: &Bytes32) -> Result<String, NoMemory>
 fn text_line(alloc: Global, conn: ConnId, text: &Text) -> Result<String, NoMemory>
     ensures { IfOk result (λ line. string_bytes line ≡ said_text conn (Message.Text text.now)) }
 {
-    if has_special(text.bytes()) {
-        let written = escape(alloc, text.as_str())?;
-        written_line(alloc, conn, written.as_str())
-    } else {
-        written_line(alloc, conn, text.as_str())
-    }
+    let written = escape(alloc, text)?;
+    let line = written_line(alloc, conn, written.as_str());
+    drop(written);
+    line
 }
 
 /// The line of a text that has its escapes.

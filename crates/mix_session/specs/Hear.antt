@@ -10,7 +10,7 @@ use Rattle.mix_model.specs.declared.ask.Ask as ask
 use Rattle.mix_model.specs.declared.ask.BatchAsk as batch
 use Rattle.mix_model.specs.declared.message.Message.{Message}
 use Rattle.mix_model.specs.declared.message.Message.TheVariants.{Text, Binary}
-use Rattle.mix_model.specs.declared.said.Said.TheVariants.{Identified}
+use Rattle.mix_events.specs.declared.said.Said.TheVariants.{Identified}
 use Rattle.mix_session.specs.declared.op.Op.{Op}
 use Rattle.mix_session.specs.declared.op.Op.TheVariants.{Identify, Reidentify, Request, RequestBatch}
 use Rattle.mix_session.specs.declared.heard.Heard.{Heard}

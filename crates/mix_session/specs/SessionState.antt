@@ -1,8 +1,8 @@
 -- What a session remembers, and how a message changes it.
 use Rattle.std.specs.Prelude.{ℕ, List, Option, Some, None}
-use Rattle.mix_model.specs.declared.said.Said.{Said}
-use Rattle.mix_model.specs.declared.said.Said.TheVariants.{Hello}
-use Rattle.mix_model.specs.declared.said.Login.{Login}
+use Rattle.mix_events.specs.declared.said.Said.{Said}
+use Rattle.mix_events.specs.declared.said.Said.TheVariants.{Hello}
+use Rattle.mix_events.specs.declared.said.Login.{Login}
 use Rattle.mix_session.specs.declared.secret.Secret.{Secret}
 use Rattle.mix_session.specs.declared.heard.Heard.{Heard}
 use Rattle.mix_session.specs.declared.heard.Heard.TheVariants.{Say, Ask, Batch, Close}

@@ -1,5 +1,6 @@
 //! What a message comes to.
-use mix_model::{Ask, BatchAsk, Said};
+use mix_events::Said;
+use mix_model::{Ask, BatchAsk};
 
 /// What a message comes to.
 #[derive(Drop)]

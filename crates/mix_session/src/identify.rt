@@ -8,7 +8,7 @@ use crate::fields::{whole_at, whole_if_there};
 use crate::heard::Heard;
 use crate::login::logs_in;
 use mix_base::{JsonObj, Text};
-use mix_model::Said;
+use mix_events::Said;
 
 /// The events that a connection is told which names none: all but those of great volume.
 const DEFAULT_MASK: u32 = 2047;

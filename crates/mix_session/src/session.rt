@@ -15,8 +15,9 @@ use crate::op::Op;
 use crate::request::{batch, request};
 use crate::secret::Secret;
 use mix_base::{Bytes32, Json, JsonObj, NoMemory, Text};
+use mix_events::{Login, Said};
 use mix_json::{JsonFault, JsonReader};
-use mix_model::{Login, Message, Said};
+use mix_model::Message;
 use std::alloc::Global;
 use std::marker::Model;
 

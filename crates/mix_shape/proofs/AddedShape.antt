@@ -1,118 +1,88 @@
 -- A new item keeps what holds of the sources, unless it is refused.
-use Rattle.std.proofs.Common.{◌≡◌, ℕ, ◌+◌, ◌==◌, Bool, true, false, cond, not, ◌&&◌, ◌||◌, List, []}
-use Rattle.std.proofs.Common.{◌∷◌, map, filter, drop, find, Option, Some, None}
-use Rattle.std.proofs.Common.{refl, ap, sym, ◌∙◌, nat_lt, is_some, eqb-true, subst, is_none}
+use Rattle.std.proofs.Common.{◌≡◌, ℕ, ◌+◌, ◌==◌, Bool, true, false, cond, not, ◌&&◌, List, []}
+use Rattle.std.proofs.Common.{◌∷◌, map, filter, find, Option, Some, None, refl, ap, sym, ◌∙◌, nat_lt}
+use Rattle.std.proofs.Common.{eqb-true, eq-eqb, subst, is_none, inl, inr}
 use Rattle.std.specs.List.{list_all, list_any}
 use Rattle.std.specs.Option.{option_map_or}
+use Rattle.std.proofs.lemmas.Bool.{cond_both, not-true, not-false, not_from_false, or_from, and_right}
+use Rattle.std.proofs.lemmas.Bool.{false_from_ne_true, both_ways}
 use Rattle.std.proofs.lemmas.List.{map-append}
 use Rattle.std.proofs.lemmas.List.Folds.{list_all-append, list_all-map}
-use Rattle.mix_model.specs.declared.fault.GraphFault.{GraphFault}
 use Rattle.mix_model.specs.declared.item.Item.{Item}
 use Rattle.mix_model.specs.declared.item.ItemSpec.{ItemSpec}
 use Rattle.mix_model.specs.declared.row.Row.{Row}
 use Rattle.mix_model.specs.Sets.{has, rises_above}
-use Rattle.mix_model.specs.Rows.{is_at, has_id, has_items, is_scene, is_input, is_group, all_items}
+use Rattle.mix_model.specs.Rows.{is_at, has_id, has_items, all_items, shows}
 use Rattle.mix_model.specs.Items.{with_item, new_item, spec_of}
-use Rattle.mix_model.specs.State.{GraphState, Channel}
-use Rattle.mix_model.specs.Lookups.{row_passes, is_row, row_of, registry, named_by, find_row, item_at}
-use Rattle.mix_model.specs.Lookups.{items_or_none}
+use Rattle.mix_model.specs.State.{GraphState}
+use Rattle.mix_model.specs.Lookups.{row_passes, is_row, row_of, find_row, item_at, items_or_none}
 use Rattle.mix_model.specs.Holders.{is_held, is_named_row, is_named, shows_some}
 use Rattle.mix_model.specs.Walks.{is_chained}
 use Rattle.mix_model.specs.Values.{are_settings, is_sound, is_place}
-use Rattle.mix_model.specs.Causes.{late_cause, item_cause, item_early, item_late, cause_or}
+use Rattle.mix_model.specs.Causes.{late_cause, item_cause, item_early, item_late}
 use Rattle.mix_model.specs.Causes.{copy_cause, copy_early, copy_late, child_of}
 use Rattle.mix_model.specs.Edits.{item_added, item_duplicated, copied_to}
-use Rattle.mix_model.specs.Shape.{GraphShape, are_rows, ids_below, is_child, is_bare, names_differ}
-use Rattle.mix_model.specs.Shape.{is_side_channel, is_preview}
+use Rattle.mix_model.specs.Shape.{GraphShape, PartsFit, ids_below, is_child, is_bare, names_differ}
 use Rattle.mix_model.specs.EditedShape.{EditedShape}
 use Rattle.mix_model.proofs.SetLemmas.{and_both, and_first, and_second, found_passes, or_left}
-use Rattle.mix_model.proofs.SetLemmas.{or_right}
-use Rattle.mix_model.specs.Rows.{shows}
-use Rattle.std.proofs.Common.{eq-eqb}
-use Rattle.mix_model.proofs.BlindLemmas.{all_congr}
+use Rattle.mix_model.proofs.SetLemmas.{or_cases, all_imply}
 use Rattle.mix_model.proofs.DyingLemmas.{all_members, member_passes}
 use Rattle.mix_model.proofs.AddLemmas.{added_held}
+use Rattle.mix_model.proofs.SteadyLemmas.{Steady, steady_at, at_same, rows_changed, steady_serials}
+use Rattle.mix_model.proofs.SteadyLemmas.{steady_item, steady_registry, steady_beside, steady_rows}
 use Rattle.mix_model.proofs.KeptShape.{filter_changed, differ_changed}
 use Rattle.mix_model.proofs.FallLemmas.{all_rows}
-use Rattle.mix_shape.proofs.NameLemmas.{HeldLess, named_less, differ_fewer}
-use Rattle.mix_shape.proofs.BesideShape.{item_holds}
-use Rattle.mix_shape.proofs.NamedLemmas.{no_cause, ids_more, named_is_held, named_is_row}
-use Rattle.mix_shape.proofs.FrameShape.{found_any}
-use Rattle.mix_shape.proofs.NamedLemmas.{named_is_child}
-use Rattle.mix_shape.proofs.LooseShape.{Loose, loose_of, tight, Steady, steady_there, steady_pass}
-use Rattle.mix_shape.proofs.LooseShape.{steady_serials}
-use Rattle.std.proofs.lemmas.Bool.{not-false}
+use Rattle.mix_shape.proofs.TestLemmas.{found_any}
+use Rattle.mix_shape.proofs.NameLemmas.{HeldLess, named_less, differ_fewer, item_holds}
+use Rattle.mix_shape.proofs.NamedLemmas.{no_cause, no_early, tight, ids_more, named_is_held}
+use Rattle.mix_shape.proofs.NamedLemmas.{named_is_row, named_is_child}
 
 module _ (parent child : ℕ) (spec : ItemSpec) where
   unfoldable pub at_parent : Row → Row
   at_parent r = cond (is_at parent r) (with_item child spec r) r
 
-  at_serial : (r : Row) (b : Bool) → (cond b (with_item child spec r) r).serial ≡ r.serial
-  unfolding with_item
-  at_serial r true = refl
-  at_serial r false = refl
-
-  at_name : (r : Row) (b : Bool) → (cond b (with_item child spec r) r).name ≡ r.name
-  unfolding with_item
-  at_name r true = refl
-  at_name r false = refl
-
-  at_kind : (r : Row) (b : Bool) → (cond b (with_item child spec r) r).kind ≡ r.kind
-  unfolding with_item
-  at_kind r true = refl
-  at_kind r false = refl
-
   -- what is changed of the parent is no serial, name or kind
   pub steady_parent : Steady at_parent
-  unfolding at_parent
-  steady_parent = record {
-    serial = λ r. at_serial r (is_at parent r);
-    name = λ r. at_name r (is_at parent r);
-    kind = λ r. at_kind r (is_at parent r);
-  }
+  unfolding at_parent with_item
+  steady_parent =
+      steady_at parent (with_item child spec) (record { serial = λ r. refl; kind = λ r. refl })
 
-  -- ids, places and children of a row with an item more
-  ids_kept : (r : Row) (b : Bool) → ids_below r.next_item (map (λ i. i.id) r.items) ≡ true →
-      ids_below (cond b (with_item child spec r) r).next_item
-      (map (λ i. i.id) (cond b (with_item child spec r) r).items) ≡ true
-  unfolding with_item new_item
-  ids_kept r true ids =
-      ap (ids_below (r.next_item + 1)) (map-append (λ (i : Item). i.id) r.items
+  pub name_parent : (r : Row) → (at_parent r).name ≡ r.name
+  unfolding at_parent with_item
+  name_parent r = at_same (λ (t : Row). t.name) (is_at parent r) (with_item child spec r) r refl
+
+  -- ids, items and values of a row with an item more
+  ids_kept : (r : Row) → ids_below r.next_item (map (λ i. i.id) r.items) ≡ true →
+      ids_below (at_parent r).next_item (map (λ i. i.id) (at_parent r).items) ≡ true
+  unfolding at_parent with_item new_item
+  ids_kept r ids = cond_both (is_at parent r) (with_item child spec r) r
+      (λ (t : Row). ids_below t.next_item (map (λ i. i.id) t.items) ≡ true)
+      (λ here. ap (ids_below (r.next_item + 1)) (map-append (λ (i : Item). i.id) r.items
       (new_item r.next_item child spec ∷ []))
-      ∙ ids_more r.next_item (map (λ (i : Item). i.id) r.items) ids
-  ids_kept r false ids = ids
+      ∙ ids_more r.next_item (map (λ (i : Item). i.id) r.items) ids) (λ there. ids)
 
-  items_kept : (p : Item → Bool) → ((id : ℕ) → p (new_item id child spec) ≡ true) → (r : Row)
-      (b : Bool) → list_all p r.items ≡ true →
-      list_all p (cond b (with_item child spec r) r).items ≡ true
-  unfolding with_item
-  items_kept p new r true all =
-      list_all-append p r.items (new_item r.next_item child spec ∷ [])
-      ∙ and_both _ _ all (and_both _ _ (new r.next_item) refl)
-  items_kept p new r false all = all
+  items_kept : (p : Item → Bool) → ((id : ℕ) → p (new_item id child spec) ≡ true) → (r : Row) →
+      list_all p r.items ≡ true → list_all p (at_parent r).items ≡ true
+  unfolding at_parent with_item
+  items_kept p new r all = cond_both (is_at parent r) (with_item child spec r) r
+      (λ (t : Row). list_all p t.items ≡ true)
+      (λ here. list_all-append p r.items (new_item r.next_item child spec ∷ [])
+      ∙ and_both _ _ all (and_both _ _ (new r.next_item) refl)) (λ there. all)
 
-  fits_kept : (r : Row) (b : Bool) →
-      (are_settings r.kind r.settings && is_sound r.sound) ≡ true →
-      (are_settings (cond b (with_item child spec r) r).kind (cond b (with_item child spec r) r).settings
-      && is_sound (cond b (with_item child spec r) r).sound) ≡ true
-  unfolding with_item
-  fits_kept r true fits = fits
-  fits_kept r false fits = fits
+  fits_kept : (r : Row) → (are_settings r.kind r.settings && is_sound r.sound) ≡ true →
+      (are_settings (at_parent r).kind (at_parent r).settings && is_sound (at_parent r).sound)
+      ≡ true
+  unfolding at_parent with_item
+  fits_kept r fits = at_same (λ (t : Row). are_settings t.kind t.settings && is_sound t.sound)
+      (is_at parent r) (with_item child spec r) r refl ∙ fits
 
-  bare_kept : (r : Row) (b : Bool) → (b ≡ true → has_items r.kind ≡ true) → is_bare r ≡ true →
-      is_bare (cond b (with_item child spec r) r) ≡ true
-  unfolding with_item
-  bare_kept r true has bare = or_left _ _ (has refl)
-  bare_kept r false has bare = bare
+  bare_kept : (r : Row) → (is_at parent r ≡ true → has_items r.kind ≡ true) → is_bare r ≡ true →
+      is_bare (at_parent r) ≡ true
+  unfolding at_parent with_item
+  bare_kept r has bare = cond_both (is_at parent r) (with_item child spec r) r
+      (λ (t : Row). is_bare t ≡ true) (λ here. or_left _ _ (has here)) (λ there. bare)
 
--- what holds of each row, changed, holds of all
-rows_changed : (h : Row → Row) (p q : Row → Bool) → ((r : Row) → p r ≡ true → q (h r) ≡ true) →
-    (rows : List Row) → list_all p rows ≡ true → list_all q (map h rows) ≡ true
-rows_changed h p q imply [] all = refl
-rows_changed h p q imply (r ∷ rows) all =
-    and_both _ _ (imply r (and_first _ _ all)) (rows_changed h p q imply rows (and_second _ _ all))
-
-module _ (parent child : ℕ) (spec : ItemSpec) (g : GraphState) (loose : Loose g)
+module _ (parent child : ℕ) (spec : ItemSpec) (g : GraphState) (parts : PartsFit g)
     (holds : row_passes g (λ r. has_items r.kind) parent ≡ true)
     (there : is_row g child ≡ true) (fits : is_child g child ≡ true)
     (fresh : has child g.dying ≡ false) (place : is_place spec.place ≡ true) where
@@ -125,41 +95,23 @@ module _ (parent child : ℕ) (spec : ItemSpec) (g : GraphState) (loose : Loose 
   abbrev more : GraphState
   more = record g { rows = map h g.rows }
 
-  child_same : (x : ℕ) → is_child more x ≡ is_child g x
-  child_same x = ap (λ b. has x (registry g) || b) (steady_pass h s is_group g.rows x)
-
-  all_there : (xs : List ℕ) → are_rows more xs ≡ are_rows g xs
-  all_there xs = all_congr (is_row more) (is_row g) (steady_there h s g.rows) xs
-
-  preview_same : (o : Option ℕ) → is_preview more o ≡ is_preview g o
-  preview_same None = refl
-  preview_same (Some x) = rw (steady_there h s g.rows x, steady_pass h s is_scene g.rows x)
-
-  side_same : (channel : Channel) → is_side_channel more channel ≡ is_side_channel g channel
-  side_same channel = ap (λ b. b && not (is_some channel.1))
-      (all_congr (is_child more) (is_child g) child_same (named_by channel))
-
-  items_more : (p : Item → Bool) → ((id : ℕ) → p (new_item id child spec) ≡ true) →
-      all_items (λ r i. p i) g.rows ≡ true → all_items (λ r i. p i) (map h g.rows) ≡ true
-  unfolding at_parent
-  items_more p new = rows_changed h (λ r. list_all p r.items) (λ r. list_all p r.items)
-      (λ r. items_kept parent child spec p new r (is_at parent r)) g.rows
+  items_more : (p q : Item → Bool) → ((i : Item) → p i ≡ true → q i ≡ true) →
+      ((id : ℕ) → q (new_item id child spec) ≡ true) →
+      all_items (λ r i. p i) g.rows ≡ true → all_items (λ r i. q i) (map h g.rows) ≡ true
+  items_more p q imply new = rows_changed h (λ r. list_all p r.items) (λ r. list_all q r.items)
+      (λ r all. items_kept parent child spec q new r (all_imply p q imply r.items all)) g.rows
 
   children_more : all_items (λ r i. is_row more i.child && is_child more i.child) more.rows ≡ true
   unfolding new_item
-  children_more =
-      items_more (λ i. is_row more i.child && is_child more i.child)
-      (λ id. and_both _ _ (steady_there h s g.rows child ∙ there) (child_same child ∙ fits))
-      (all_congr (λ r. list_all (λ i. is_row more i.child && is_child more i.child) r.items)
-      (λ r. list_all (λ i. is_row g i.child && is_child g i.child) r.items)
-      (λ r. all_congr (λ i. is_row more i.child && is_child more i.child)
-      (λ i. is_row g i.child && is_child g i.child)
-      (λ i. rw (steady_there h s g.rows i.child, child_same i.child)) r.items) g.rows
-      ∙ loose.children_rows)
+  children_more = items_more (λ i. is_row g i.child && is_child g i.child)
+      (λ i. is_row more i.child && is_child more i.child) (steady_item h s g g.dying)
+      (λ id. steady_item h s g g.dying (new_item id child spec) (and_both _ _ there fits))
+      parts.rows.children_rows
 
   places_more : all_items (λ r i. is_place i.place) more.rows ≡ true
   unfolding new_item
-  places_more = items_more (λ i. is_place i.place) (λ id. place) loose.places_fit
+  places_more = items_more (λ i. is_place i.place) (λ i. is_place i.place) (λ i ok. ok)
+      (λ id. place) parts.rows.places_fit
 
   -- the parent is a scene or group
   parent_holds : (r : Row) → find (is_at r.serial) g.rows ≡ Some r → is_at parent r ≡ true →
@@ -170,102 +122,72 @@ module _ (parent child : ℕ) (spec : ItemSpec) (g : GraphState) (loose : Loose 
       ap (λ o. option_map_or (λ (t : Row). has_items t.kind) o false) (sym same) ∙ holds
 
   bare_more : list_all is_bare (map h g.rows) ≡ true
-  unfolding at_parent
   bare_more = list_all-map is_bare h g.rows
-      ∙ all_rows (λ r. is_bare (h r)) 0 g.rows loose.serials_rise
-      (λ r found. bare_kept parent child spec r (is_at parent r) (parent_holds r found)
-      (found_passes (is_at r.serial) is_bare g.rows r found loose.inputs_bare).1)
+      ∙ all_rows (λ r. is_bare (h r)) 0 g.rows parts.rows.serials_rise
+      (λ r found. bare_kept parent child spec r (parent_holds r found)
+      (found_passes (is_at r.serial) is_bare g.rows r found parts.rows.inputs_bare).1)
 
   -- what dies isn't the child
   dying_more : list_all (λ x. not (is_held (item_added parent child spec g) x)) g.dying ≡ true
   dying_more = all_members (λ x. not (is_held (item_added parent child spec g) x)) g.dying
-      (λ x dies. ap not (added_held g parent child spec x)
-      ∙ still (is_held g x) (list_any (is_at parent) g.rows) (child == x) (other x dies)
-      (member_passes (λ y. not (is_held g y)) x g.dying dies loose.dying_unheld))
-    where
-      other : (x : ℕ) → has x g.dying ≡ true → (child == x) ≡ false
-      other x dies = apart (child == x) refl
-        where
-          apart : (b : Bool) → (child == x) ≡ b → b ≡ false
-          apart false is = refl
-          apart true is =
-              let same : child ≡ x = eqb-true child x is in
-              sym (sym fresh ∙ ap (λ y. has y g.dying) same ∙ dies)
+      (λ x dies. not_from_false _ (added_held g parent child spec x ∙ or_from _ _
+      (not-true _ (member_passes (λ y. not (is_held g y)) x g.dying dies parts.dying.none_held))
+      (and_right (list_any (is_at parent) g.rows) _ (false_from_ne_true (child == x)
+      (λ same. both_ways _ fresh
+      (ap (λ y. has y g.dying) (eqb-true child x same) ∙ dies))))))
 
-      still : (a b c : Bool) → c ≡ false → not a ≡ true → not (a || (b && c)) ≡ true
-      still true b c none h = cc
-      still false true c none h = ap not none
-      still false false c none h = refl
-
-  pub added_loose : Loose (item_added parent child spec g)
+  pub added_parts : PartsFit (item_added parent child spec g)
   unfolding item_added at_parent
-  added_loose = record {
-    serials_rise = ap (rises_above 0) (steady_serials h s g.rows) ∙ loose.serials_rise;
-    serials_start = loose.serials_start;
-    serials_below = ap (list_all (λ x. nat_lt x g.next_serial)) (steady_serials h s g.rows)
-        ∙ loose.serials_below;
-    item_ids = rows_changed h (λ r. ids_below r.next_item (map (λ i. i.id) r.items))
-        (λ r. ids_below r.next_item (map (λ i. i.id) r.items))
-        (λ r. ids_kept parent child spec r (is_at parent r)) g.rows loose.item_ids;
-    hold_ids = loose.hold_ids;
-    watch_ids = loose.watch_ids;
-    frame_numbers = loose.frame_numbers;
-    holds_rows = all_there (map (λ k. k.serial) g.holds) ∙ loose.holds_rows;
-    frames_rows = all_congr (λ f. are_rows more f.serials) (λ f. are_rows g f.serials)
-        (λ f. all_there f.serials) g.frames ∙ loose.frames_rows;
-    frames_once = loose.frames_once;
-    watched_before = loose.watched_before;
-    scenes_scenes = all_congr (row_passes more (λ r. is_scene r.kind))
-        (row_passes g (λ r. is_scene r.kind)) (steady_pass h s is_scene g.rows) g.scenes
-        ∙ loose.scenes_scenes;
-    inputs_inputs = all_congr (row_passes more (λ r. is_input r.kind))
-        (row_passes g (λ r. is_input r.kind)) (steady_pass h s is_input g.rows) g.inputs
-        ∙ loose.inputs_inputs;
-    registry_once = loose.registry_once;
-    children_rows = children_more;
-    inputs_bare = bare_more;
-    channel_count = loose.channel_count;
-    program_channel = loose.program_channel;
-    side_channels = all_congr (is_side_channel more) (is_side_channel g) side_same
-        (drop 1 g.channels) ∙ loose.side_channels;
-    preview_scene = preview_same g.preview ∙ loose.preview_scene;
-    dying_rows = all_there g.dying ∙ loose.dying_rows;
-    dying_unheld = dying_more;
-    dying_once = loose.dying_once;
-    settings_fit = rows_changed h (λ r. are_settings r.kind r.settings && is_sound r.sound)
-        (λ r. are_settings r.kind r.settings && is_sound r.sound)
-        (λ r. fits_kept parent child spec r (is_at parent r)) g.rows loose.settings_fit;
-    places_fit = places_more;
-    few_frames = loose.few_frames;
-    few_holds = loose.few_holds;
-    few_watches = loose.few_watches;
-  }
+  added_parts =
+      let ids : Row → Bool = λ r. ids_below r.next_item (map (λ i. i.id) r.items) in
+      let values : Row → Bool = λ r. are_settings r.kind r.settings && is_sound r.sound in
+      record {
+        rows = record {
+          serials_rise = ap (rises_above 0) (steady_serials h s g.rows) ∙ parts.rows.serials_rise;
+          serials_start = parts.rows.serials_start;
+          serials_below = ap (list_all (λ x. nat_lt x g.next_serial)) (steady_serials h s g.rows)
+              ∙ parts.rows.serials_below;
+          item_ids = rows_changed h ids ids (ids_kept parent child spec) g.rows
+              parts.rows.item_ids;
+          children_rows = children_more;
+          inputs_bare = bare_more;
+          settings_fit = rows_changed h values values (fits_kept parent child spec) g.rows
+              parts.rows.settings_fit;
+          places_fit = places_more;
+        };
+        registry = steady_registry h s g g.dying parts.registry;
+        beside = steady_beside h s g g.dying parts.beside;
+        dying = record {
+          dying_rows = steady_rows h s g g.dying g.dying parts.dying.dying_rows;
+          none_held = dying_more;
+          dying_once = parts.dying.dying_once;
+        };
+      }
 
 -- what is held doesn't die
-held_lives : (g : GraphState) → Loose g → (x : ℕ) → is_held g x ≡ true → has x g.dying ≡ false
-held_lives g loose x held = lives (has x g.dying) refl
-  where
-    lives : (b : Bool) → has x g.dying ≡ b → b ≡ false
-    lives false is = refl
-    lives true is =
-        let never : not (is_held g x) ≡ true =
-        member_passes (λ y. not (is_held g y)) x g.dying is loose.dying_unheld in
-        sym never ∙ ap not held
+held_lives : (g : GraphState) → PartsFit g → (x : ℕ) → is_held g x ≡ true → has x g.dying ≡ false
+held_lives g parts x held = false_from_ne_true _ (λ dies. both_ways _
+    (not-true _ (member_passes (λ y. not (is_held g y)) x g.dying dies parts.dying.none_held)) held)
 
 -- a new item holds what was held, and nothing else that wasn't
 added_less : (parent child : ℕ) (spec : ItemSpec) (g : GraphState) → is_held g child ≡ true →
     HeldLess g (item_added parent child spec g)
 added_less parent child spec g held y after =
-    less (is_held g y) (list_any (is_at parent) g.rows) (child == y) refl refl
-    (sym (added_held g parent child spec y) ∙ after)
-  where
-    less : (a b c : Bool) → is_held g y ≡ a → (child == y) ≡ c → (a || (b && c)) ≡ true →
-        a ≡ true
-    less true b c old same h = refl
-    less false true true old same h =
-        sym old ∙ ap (is_held g) (sym (eqb-true child y same)) ∙ held
-    less false true false old same h = h
-    less false false c old same h = h
+    elim (or_cases _ _ (sym (added_held g parent child spec y) ∙ after)) [
+      | inl before ↦ before
+      | inr both ↦ ap (is_held g) (sym (eqb-true child y (and_second _ _ both))) ∙ held
+    ]
+
+-- names of rows with an item more, where as many are named
+pub added_names : (parent child : ℕ) (spec : ItemSpec) (p q : Row → Bool) (rows : List Row) →
+    ((r : Row) → q (at_parent parent child spec r) ≡ true → p r ≡ true) →
+    names_differ (filter p rows) ≡ true →
+    names_differ (filter q (map (at_parent parent child spec) rows)) ≡ true
+added_names parent child spec p q rows fewer differ =
+    let h : Row → Row = at_parent parent child spec in
+    ap names_differ (filter_changed q (λ r. q (h r)) h (λ r. refl) rows)
+    ∙ differ_changed h (name_parent parent child spec) (filter (λ r. q (h r)) rows)
+    ∙ differ_fewer p (λ r. q (h r)) fewer rows differ
 
 -- a row's name doesn't ask for its items
 named_at : (h : Row → Row) → Steady h → (g : GraphState) (r : Row) →
@@ -279,23 +201,14 @@ pub added_shape : (parent child : ℕ) (spec : ItemSpec) (g : GraphState) → Gr
     late_cause (item_added parent child spec g) ≡ None → EditedShape (item_added parent child spec g)
 unfolding item_added at_parent
 added_shape parent child spec g shape holds there fits held place none =
-    let h : Row → Row = at_parent parent child spec in
-    let s : Steady h = steady_parent parent child spec in
     let new : GraphState = item_added parent child spec g in
-    tight new (added_loose parent child spec g (loose_of g shape) holds there fits
-    (held_lives g (loose_of g shape) child held) place)
-    (ap names_differ (filter_changed (is_named_row new) (λ r. is_named_row new (h r)) h
-    (λ r. refl) g.rows)
-    ∙ differ_changed h s.name (filter (λ r. is_named_row new (h r)) g.rows)
-    ∙ differ_fewer (is_named_row g) (λ r. is_named_row new (h r))
-    (λ r named. named_at h s g r (named_less g new (added_less parent child spec g held)
-    (λ y listed. listed) (h r) named)) g.rows shape.names)
+    tight new (added_parts parent child spec g shape.parts holds there fits
+    (held_lives g shape.parts child held) place)
+    (added_names parent child spec (is_named_row g) (is_named_row new) g.rows
+    (λ r named. named_at (at_parent parent child spec) (steady_parent parent child spec) g r
+    (named_less g new (added_less parent child spec g held) (λ y listed. listed)
+    (at_parent parent child spec r) named)) shape.names)
     none
-
-pub no_early : (early late : Option GraphFault) → cause_or early late ≡ None →
-    (early ≡ None) × (late ≡ None)
-no_early None late h = (refl, h)
-no_early (Some cause) late h = cc
 
 -- where no circle comes, the later causes are left
 no_circle : (g : GraphState) (parent child : ℕ) (after : GraphState) →
@@ -331,24 +244,13 @@ item_found g q all parent id (Some r) row i found =
     (found_passes (is_at parent) (λ (t : Row). list_all q t.items) g.rows r row all).1 in
     (found_passes (has_id id) q r.items i found items).1
 
-any_found : (p q : Item → Bool) (items : List Item) (i : Item) → find p items ≡ Some i →
-    q i ≡ true → list_any q items ≡ true
-any_found p q [] i found passes = cc
-any_found p q (j ∷ items) i found passes = here (any_found p q items i) (p j) found
-  where
-    here : (find p items ≡ Some i → q i ≡ true → list_any q items ≡ true) → (b : Bool) →
-        cond b (Some j) (find p items) ≡ Some i → (q j || list_any q items) ≡ true
-    here rest true found = let same : j ≡ i = cc in
-        or_left _ _ (subst (λ z. q z ≡ true) (sym same) passes)
-    here rest false found = or_right (q j) _ (rest found passes)
-
 -- an item holds its child
 child_held : (g : GraphState) (parent id : ℕ) (o : Option Row) → row_of g parent ≡ o → (i : Item) →
     find (has_id id) (items_or_none o) ≡ Some i → is_held g i.child ≡ true
 child_held g parent id None row i found = cc
 child_held g parent id (Some r) row i found =
     item_holds g i.child (found_any (is_at parent) (shows_some i.child) g.rows r row
-    (any_found (has_id id) (shows i.child) r.items i found (eq-eqb i.child i.child refl)))
+    (found_any (has_id id) (shows i.child) r.items i found (eq-eqb i.child i.child refl)))
 
 -- a copy that isn't refused
 pub duplicated_shape : (parent id to : ℕ) (g : GraphState) → GraphShape g →
@@ -373,10 +275,10 @@ duplicated_shape parent id to g shape none =
     item_case None found there holds late = cc
     item_case (Some i) found there holds late =
         let child : (is_row g i.child && is_child g i.child) ≡ true =
-        item_found g (λ j. is_row g j.child && is_child g j.child) shape.children_rows parent id
+        item_found g (λ j. is_row g j.child && is_child g j.child) shape.parts.rows.children_rows parent id
         (row_of g parent) refl i found in
         let place : is_place i.place ≡ true =
-        item_found g (λ j. is_place j.place) shape.places_fit parent id (row_of g parent) refl i
+        item_found g (λ j. is_place j.place) shape.parts.rows.places_fit parent id (row_of g parent) refl i
         found in
         subst (λ o. EditedShape (copied_to to o g)) (sym found)
         (added_shape to i.child (spec_of i) g shape holds (and_first _ _ child)

@@ -1,11 +1,10 @@
 -- A new row without items makes no row deeper or heavier.
-use Rattle.std.proofs.Common.{◌≡◌, ℕ, zero, suc, ◌+◌, ◌≤◌, ◌==◌, Bool, true, false, cond, not, ◌&&◌}
-use Rattle.std.proofs.Common.{List, [], ◌∷◌, ◌++◌, map, length, find, Option, Some, None, refl, ap, sym}
-use Rattle.std.proofs.Common.{◌∙◌, arith, nat_le, nat_lt, option_and_then, leb-true, le-ltb, is_some, eqb-true}
-use Rattle.std.specs.List.{list_all, sum_by}
-use Rattle.std.specs.Option.{option_map_or}
+use Rattle.std.proofs.Common.{◌≡◌, ℕ, ◌+◌, Bool, true, false, cond, ◌&&◌}
+use Rattle.std.proofs.Common.{List, [], ◌∷◌, ◌++◌, map, length, Option, Some, None, refl, ap, sym}
+use Rattle.std.proofs.Common.{◌∙◌, arith, nat_le, nat_lt, option_and_then, leb-true, le-ltb}
+use Rattle.std.specs.List.{list_all}
 use Rattle.std.proofs.lemmas.List.{length-append}
-use Rattle.std.proofs.lemmas.List.Folds.{list_all-append, list_all-map, list_any-append}
+use Rattle.std.proofs.lemmas.List.Folds.{list_all-append, list_all-map}
 use Rattle.std.proofs.lemmas.List.Sums.{sum_by_push}
 use Rattle.mix_model.specs.declared.kind.Kind.{Kind}
 use Rattle.mix_model.specs.declared.kind.Kind.TheVariants.{Scene}
@@ -13,12 +12,11 @@ use Rattle.mix_model.specs.declared.settings.Settings.{Settings}
 use Rattle.mix_model.specs.declared.settings.Settings.TheVariants.{None as NoSettings}
 use Rattle.mix_model.specs.declared.item.Item.{Item}
 use Rattle.mix_model.specs.declared.row.Row.{Row}
-use Rattle.mix_model.specs.Sets.{greatest, has}
-use Rattle.mix_model.specs.Rows.{is_at, has_items, children_of, new_row, all_items, serials_of}
+use Rattle.mix_model.specs.Rows.{is_at, has_items, children_of, new_row, serials_of}
 use Rattle.mix_model.specs.State.{GraphState}
-use Rattle.mix_model.specs.Lookups.{find_row, is_row, row_of}
+use Rattle.mix_model.specs.Lookups.{is_row, row_of}
 use Rattle.mix_model.specs.Holders.{has_name}
-use Rattle.mix_model.specs.Ranks.{inside_of, inside_in, rank_by, rank_over, rank_in, sum_of, rank}
+use Rattle.mix_model.specs.Ranks.{inside_of, inside_in, rank_by, rank_over, rank_in, rank}
 use Rattle.mix_model.specs.Ranks.{weight_by, weight_over, weight_in, weight, ranks_within}
 use Rattle.mix_model.specs.Ranks.{weights_within}
 use Rattle.mix_model.specs.Values.{new_sound}
@@ -27,63 +25,18 @@ use Rattle.mix_model.specs.declared.fault.GraphFault.{GraphFault}
 use Rattle.mix_model.specs.declared.fault.GraphFault.TheVariants.{Exists, TooMany}
 use Rattle.mix_model.specs.Edits.{scene_created, input_created}
 use Rattle.mix_model.specs.Shape.{GraphShape, is_child}
-use Rattle.mix_model.proofs.SetLemmas.{and_both, and_first, and_second, found_passes}
-use Rattle.mix_model.proofs.DyingLemmas.{all_members}
+use Rattle.mix_model.proofs.SetLemmas.{and_both, and_first, found_passes, all_imply}
+use Rattle.mix_model.proofs.DyingLemmas.{all_members, member_passes}
 use Rattle.mix_model.proofs.DistinctLemmas.{row_is_listed}
+use Rattle.mix_model.proofs.AlikeLemmas.{Alike, rank_alike, weight_alike, inside_all}
 use Rattle.mix_shape.specs.Refused.{bare_cause}
-use Rattle.mix_shape.proofs.ThinnerLemmas.{all_imply}
-use Rattle.mix_shape.proofs.LooseShape.{loose_of}
-use Rattle.mix_shape.proofs.GrownShape.{found_more, new_found}
-
--- all that is inside passes
-abbrev inside_all : (ℕ → Bool) → Option (List ℕ) → Bool
-inside_all p o = option_map_or (list_all p) o true
-
-map_within : (p : ℕ → Bool) (f k : ℕ → ℕ) → ((x : ℕ) → p x ≡ true → f x ≡ k x) → (xs : List ℕ) →
-    list_all p xs ≡ true → map f xs ≡ map k xs
-map_within p f k same [] all = refl
-map_within p f k same (x ∷ xs) all =
-    rw (
-      same x (and_first (p x) (list_all p xs) all),
-      map_within p f k same xs (and_second (p x) (list_all p xs) all),
-    )
-
-rank_over_within : (p : ℕ → Bool) (f k : ℕ → ℕ) → ((x : ℕ) → p x ≡ true → f x ≡ k x) →
-    (o : Option (List ℕ)) → inside_all p o ≡ true → rank_over f o ≡ rank_over k o
-rank_over_within p f k same None all = refl
-rank_over_within p f k same (Some xs) all =
-    ap (λ ys. suc (greatest ys)) (map_within p f k same xs all)
-
-weight_over_within : (p : ℕ → Bool) (f k : ℕ → ℕ) → ((x : ℕ) → p x ≡ true → f x ≡ k x) →
-    (o : Option (List ℕ)) → inside_all p o ≡ true → weight_over f o ≡ weight_over k o
-weight_over_within p f k same None all = refl
-weight_over_within p f k same (Some xs) all =
-    ap (λ ys. suc (sum_of ys)) (map_within p f k same xs all)
-
--- ranks and weights of rows whose insides are rows again
-module _ (p : ℕ → Bool) (inner other : ℕ → Option (List ℕ))
-    (same : (x : ℕ) → p x ≡ true → inner x ≡ other x)
-    (closed : (x : ℕ) → p x ≡ true → inside_all p (other x) ≡ true) where
-  rank_within : (n x : ℕ) → p x ≡ true → rank_by inner n x ≡ rank_by other n x
-  rank_within zero x here = refl
-  rank_within (suc n) x here =
-      ap (rank_over (λ c. rank_by inner n c)) (same x here)
-      ∙ rank_over_within p (λ c. rank_by inner n c) (λ c. rank_by other n c) (rank_within n)
-      (other x) (closed x here)
-
-  weight_within : (n x : ℕ) → p x ≡ true → weight_by inner n x ≡ weight_by other n x
-  weight_within zero x here = refl
-  weight_within (suc n) x here =
-      ap (weight_over (λ c. weight_by inner n c)) (same x here)
-      ∙ weight_over_within p (λ c. weight_by inner n c) (λ c. weight_by other n c)
-      (weight_within n) (other x) (closed x here)
+use Rattle.mix_shape.proofs.WithLemmas.{rank_low, weight_low}
+use Rattle.mix_shape.proofs.GrownShape.{NewRow, found_more, new_found}
 
 -- what is inside a row is rows
 children_there : (p : ℕ → Bool) (items : List Item) → list_all (λ i. p i.child) items ≡ true →
     list_all p (map (λ i. i.child) items) ≡ true
-children_there p [] all = refl
-children_there p (i ∷ items) all =
-    and_both _ _ (and_first _ _ all) (children_there p items (and_second _ _ all))
+children_there p items all = list_all-map p (λ (i : Item). i.child) items ∙ all
 
 module _ (name : List ℕ) (kind : Kind) (settings : Settings) (g : GraphState)
     (shape : GraphShape g) where
@@ -92,6 +45,16 @@ module _ (name : List ℕ) (kind : Kind) (settings : Settings) (g : GraphState)
 
   abbrev rows : List Row
   rows = g.rows ++ row ∷ []
+
+  -- what the registry has makes no difference
+  abbrev same_registry : NewRow
+  same_registry = record {
+    name = name;
+    kind = kind;
+    settings = settings;
+    scenes = g.scenes;
+    inputs = g.inputs;
+  }
 
   inside_case : (x : ℕ) (o : Option Row) → row_of g x ≡ o →
       inside_all (is_row g) (option_and_then inside_of o) ≡ true
@@ -103,7 +66,7 @@ module _ (name : List ℕ) (kind : Kind) (settings : Settings) (g : GraphState)
           (λ (i : Item). is_row g i.child) (λ i h. and_first _ _ h) r.items
           (found_passes (is_at x)
           (λ (s : Row). list_all (λ i. is_row g i.child && is_child g i.child) s.items) g.rows r
-          found shape.children_rows).1
+          found shape.parts.rows.children_rows).1
 
       kind_case : (b : Bool) →
           inside_all (is_row g) (cond b (Some (children_of r)) None) ≡ true
@@ -112,64 +75,50 @@ module _ (name : List ℕ) (kind : Kind) (settings : Settings) (g : GraphState)
 
   inside_same : (x : ℕ) → is_row g x ≡ true → inside_in rows x ≡ inside_in g.rows x
   inside_same x there = ap (option_and_then inside_of)
-      (found_more name kind settings g.scenes g.inputs g (loose_of g shape) x (row_of g x) refl there)
+      (found_more same_registry g shape.parts x (row_of g x) refl there)
+
+  alike_here : (x : ℕ) → is_row g x ≡ true → Alike (inside_in rows x) (inside_in g.rows x)
+  alike_here x there f =
+      (ap (rank_over f) (inside_same x there), ap (weight_over f) (inside_same x there))
 
   rank_same : (x : ℕ) → is_row g x ≡ true → rank_in rows x ≡ rank_in g.rows x
-  rank_same x there = rank_within (is_row g) (inside_in rows) (inside_in g.rows) inside_same
-      (λ y here. inside_case y (row_of g y) refl) 17 x there
+  rank_same = rank_alike (is_row g) (inside_in rows) (inside_in g.rows) alike_here
+      (λ y here. inside_case y (row_of g y) refl) 17
 
   weight_same : (x : ℕ) → is_row g x ≡ true → weight_in rows x ≡ weight_in g.rows x
-  weight_same x there = weight_within (is_row g) (inside_in rows) (inside_in g.rows) inside_same
-      (λ y here. inside_case y (row_of g y) refl) 17 x there
+  weight_same = weight_alike (is_row g) (inside_in rows) (inside_in g.rows) alike_here
+      (λ y here. inside_case y (row_of g y) refl) 17
 
   own_inside : inside_in rows g.next_serial ≡ cond (has_items kind) (Some []) None
   unfolding new_row
   own_inside = ap (option_and_then inside_of)
-      (new_found name kind settings g.scenes g.inputs g (loose_of g shape))
+      (new_found same_registry g shape.parts)
 
-  rank_low : (f : ℕ → ℕ) (b : Bool) → nat_le (rank_over f (cond b (Some []) None)) 16 ≡ true
-  rank_low f true = refl
-  rank_low f false = refl
-
-  weight_low : (f : ℕ → ℕ) (b : Bool) →
-      nat_le (weight_over f (cond b (Some []) None)) 4096 ≡ true
-  weight_low f true = refl
-  weight_low f false = refl
-
-  -- a test of serials that all rows pass, and the new one
-  serials_pass : (q : ℕ → Bool) → ((x : ℕ) → is_row g x ≡ true → q x ≡ true) →
-      q g.next_serial ≡ true → list_all (λ r. q r.serial) rows ≡ true
+  -- a test of serials that all rows pass as before, and the new one
+  serials_pass : (p q : ℕ → Bool) → ((x : ℕ) → is_row g x ≡ true → q x ≡ p x) →
+      list_all (λ r. p r.serial) g.rows ≡ true → q g.next_serial ≡ true →
+      list_all (λ r. q r.serial) rows ≡ true
   unfolding new_row
-  serials_pass q each own =
+  serials_pass p q same all own =
       list_all-append (λ (r : Row). q r.serial) g.rows (row ∷ [])
       ∙ and_both _ _
       (sym (list_all-map q (λ (r : Row). r.serial) g.rows)
-      ∙ all_members q (serials_of g.rows)
-      (λ x here. each x (row_is_listed g.rows x ∙ here)))
+      ∙ all_members q (serials_of g.rows) (λ x here. same x (row_is_listed g.rows x ∙ here)
+      ∙ member_passes p x (serials_of g.rows) here
+      (list_all-map p (λ (r : Row). r.serial) g.rows ∙ all)))
       (and_both _ _ own refl)
-
-  passed : (q : ℕ → Bool) → list_all (λ r. q r.serial) g.rows ≡ true → (x : ℕ) →
-      is_row g x ≡ true → q x ≡ true
-  passed q all x there = passed_case (row_of g x) refl there
-    where
-      passed_case : (o : Option Row) → row_of g x ≡ o → is_some o ≡ true → q x ≡ true
-      passed_case None found there = cc
-      passed_case (Some r) found there =
-          let both = found_passes (is_at x) (λ (s : Row). q s.serial) g.rows r found all in
-          ap q (sym (eqb-true r.serial x both.0)) ∙ both.1
 
   ranks_low : list_all (λ r. nat_le (rank_in rows r.serial) 16) rows ≡ true
   unfolding ranks_within
-  ranks_low = serials_pass (λ x. nat_le (rank_in rows x) 16)
-      (λ x there. ap (λ n. nat_le n 16) (rank_same x there)
-      ∙ passed (λ y. nat_le (rank_in g.rows y) 16) shape.shallow x there)
+  ranks_low = serials_pass (λ x. nat_le (rank_in g.rows x) 16) (λ x. nat_le (rank_in rows x) 16)
+      (λ x there. ap (λ n. nat_le n 16) (rank_same x there)) shape.limits.shallow
       (rw own_inside (rank_low (λ c. rank_by (inside_in rows) 16 c) (has_items kind)))
 
   weights_low : list_all (λ r. nat_le (weight_in rows r.serial) 4096) rows ≡ true
   unfolding weights_within
-  weights_low = serials_pass (λ x. nat_le (weight_in rows x) 4096)
-      (λ x there. ap (λ n. nat_le n 4096) (weight_same x there)
-      ∙ passed (λ y. nat_le (weight_in g.rows y) 4096) shape.light x there)
+  weights_low = serials_pass (λ x. nat_le (weight_in g.rows x) 4096)
+      (λ x. nat_le (weight_in rows x) 4096)
+      (λ x there. ap (λ n. nat_le n 4096) (weight_same x there)) shape.limits.light
       (rw own_inside (weight_low (λ c. weight_by (inside_in rows) 16 c) (has_items kind)))
 
   items_low : nat_lt 2048 (item_count rows) ≡ false
@@ -178,7 +127,7 @@ module _ (name : List ℕ) (kind : Kind) (settings : Settings) (g : GraphState)
       let same : item_count rows ≡ item_count g.rows + length row.items =
       sum_by_push (λ (r : Row). length r.items) g.rows row in
       le-ltb 2048 (item_count rows)
-      (omega (arith, same, leb-true (item_count g.rows) 2048 shape.few_items))
+      (omega (arith, same, leb-true (item_count g.rows) 2048 shape.limits.few_items))
 
   -- only the name and the number of rows are left to ask
   pub bare_is : (after : GraphState) → after.rows ≡ rows →

@@ -1,10 +1,12 @@
 -- To set what a channel names keeps what holds of the sources.
-use Rattle.std.proofs.Common.{◌≡◌, ℕ, zero, suc, ◌+◌, ◌<◌, ◌≤◌, ◌==◌, Bool, true, false, cond, not}
-use Rattle.std.proofs.Common.{◌&&◌, ◌||◌, List, [], ◌∷◌, ◌++◌, map, take, drop, length, set}
-use Rattle.std.proofs.Common.{Option, Some, None, refl, ap, sym, ◌∙◌, arith, eqb-true, is_some}
+use Rattle.std.proofs.Common.{◌≡◌, ℕ, zero, suc, ◌==◌, Bool, true, false, not}
+use Rattle.std.proofs.Common.{◌&&◌, ◌||◌, List, [], ◌∷◌, take, drop, set}
+use Rattle.std.proofs.Common.{Option, refl, ap, sym, ◌∙◌, arith, is_some}
 use Rattle.std.proofs.Common.{subst, inl, inr, option_to_list}
 use Rattle.std.specs.List.{list_all, list_any}
 use Rattle.std.specs.Option.{option_map_or}
+use Rattle.std.proofs.lemmas.Bool.{not-true, not-false, both_ways, and_left, cond-true, cond-false}
+use Rattle.std.proofs.lemmas.Bool.{ne_eqb}
 use Rattle.std.proofs.lemmas.List.{length-set}
 use Rattle.std.proofs.lemmas.List.Folds.{list_any-append}
 use Rattle.mix_model.specs.declared.kind.Kind.{Kind}
@@ -14,18 +16,19 @@ use Rattle.mix_model.specs.declared.row.Row.{Row}
 use Rattle.mix_model.specs.Sets.{has, is_distinct}
 use Rattle.mix_model.specs.Rows.{is_scene, is_input, is_group}
 use Rattle.mix_model.specs.State.{GraphState, Channel}
-use Rattle.mix_model.specs.Lookups.{is_row, row_of, row_passes, registry, named_by}
+use Rattle.mix_model.specs.Lookups.{is_row, row_passes, registry, named_by}
 use Rattle.mix_model.specs.Holders.{is_held, is_named_row, is_named, names}
 use Rattle.mix_model.specs.Edits.{channel_set}
-use Rattle.mix_model.specs.Shape.{GraphShape, is_child, is_side_channel, is_program_channel}
+use Rattle.mix_model.specs.Shape.{GraphShape, BesideFits, is_child, is_side_channel}
+use Rattle.mix_model.specs.Shape.{is_program_channel}
 use Rattle.mix_model.specs.EditedShape.{EditedShape}
 use Rattle.mix_model.proofs.SetLemmas.{and_both, and_first, and_second, or_cases, or_left}
+use Rattle.mix_model.proofs.SetLemmas.{or_right, all_imply}
 use Rattle.mix_model.proofs.DyingLemmas.{all_members, member_passes}
 use Rattle.mix_shape.specs.Refused.{is_missing, is_no_other, may_be_set}
-use Rattle.mix_shape.proofs.ThinnerLemmas.{all_imply, none_all}
-use Rattle.mix_shape.proofs.NameLemmas.{or_imply}
-use Rattle.mix_shape.proofs.BesideShape.{Beside, BesideFits, beside_shape, beside_of}
-use Rattle.mix_shape.proofs.BesideShape.{held_less_beside, channel_holds, hold_holds, frame_holds}
+use Rattle.mix_shape.proofs.TestLemmas.{none_all}
+use Rattle.mix_shape.proofs.NameLemmas.{channel_holds, hold_holds, frame_holds}
+use Rattle.mix_shape.proofs.BesideShape.{beside_shape}
 use Rattle.mix_shape.proofs.NamedLemmas.{Named, named_row, named_is_held, named_is_row}
 use Rattle.mix_shape.proofs.NamedLemmas.{named_is_child}
 
@@ -37,26 +40,17 @@ all_set p (y ∷ xs) zero x all here = and_both _ _ here (and_second _ _ all)
 all_set p (y ∷ xs) (suc n) x all here =
     and_both _ _ (and_first _ _ all) (all_set p xs n x (and_second _ _ all) here)
 
-any_set : {X : Type 0} (p : X → Bool) (xs : List X) (n : ℕ) (x : X) →
-    list_any p (set xs n x) ≡ true → (list_any p xs || p x) ≡ true
-any_set p [] n x h = cc
-any_set p (y ∷ xs) zero x h = swap (p x) (list_any p xs) (p y) h
-  where
-    swap : (a b c : Bool) → (a || b) ≡ true → ((c || b) || a) ≡ true
-    swap true true true h = refl
-    swap true true false h = refl
-    swap true false true h = refl
-    swap true false false h = refl
-    swap false true true h = refl
-    swap false true false h = refl
-    swap false false c h = cc
-any_set p (y ∷ xs) (suc n) x h = regroup (p y) _ _ _ (any_set p xs n x) h
-  where
-    regroup : (a b c d : Bool) → (b ≡ true → (c || d) ≡ true) → (a || b) ≡ true →
-        ((a || c) || d) ≡ true
-    regroup true b c d more h = refl
-    regroup false true c d more h = more refl
-    regroup false false c d more h = cc
+any_set : {X : Type 0} (p : X → Bool) (xs : List X) (n : ℕ) (x : X) (P : Type 0) →
+    (list_any p xs ≡ true → P) → (p x ≡ true → P) → list_any p (set xs n x) ≡ true → P
+any_set p [] n x P old new h = cc
+any_set p (y ∷ xs) zero x P old new h = elim (or_cases _ _ h) [
+  | inl here ↦ new here
+  | inr later ↦ old (or_right (p y) _ later)
+]
+any_set p (y ∷ xs) (suc n) x P old new h = elim (or_cases _ _ h) [
+  | inl here ↦ old (or_left (p y) _ here)
+  | inr later ↦ any_set p xs n x P (λ rest. old (or_right (p y) _ rest)) new later
+]
 
 -- the first channel and the others, where one is written
 first_set : (p : Channel → Bool) (cs : List Channel) (n : ℕ) (c : Channel) →
@@ -71,23 +65,18 @@ others_set : (p : Channel → Bool) (cs : List Channel) (n : ℕ) (c : Channel) 
     list_all p (drop 1 (set cs n c)) ≡ true
 others_set p [] n c all here = refl
 others_set p (d ∷ cs) zero c all here = all
-others_set p (d ∷ cs) (suc n) c all here = all_set p cs n c all (here (apart n))
-  where
-    apart : (n : ℕ) → (suc n == 0) ≡ false
-    apart n = none (suc n == 0) refl
-      where
-        none : (b : Bool) → (suc n == 0) ≡ b → b ≡ false
-        none false is = refl
-        none true is = absurd (omega (arith, eqb-true (suc n) 0 is))
+others_set p (d ∷ cs) (suc n) c all here =
+    all_set p cs n c all (here (ne_eqb (suc n) 0 (λ same. omega (arith, same))))
 
-not_both : (kind : Kind) → is_scene kind ≡ true → is_input kind ≡ true → true ≡ false
-not_both Scene scene input = sym input
-not_both Group scene input = cc
-not_both Color scene input = cc
-not_both Checker scene input = cc
-not_both Scroll scene input = cc
-not_both Raster scene input = cc
-not_both Tone scene input = cc
+-- the one that holds of two
+pub or_only : (a b : Bool) → b ≡ false → (a || b) ≡ true → a ≡ true
+or_only true b none some = refl
+or_only false b none some = absurd (both_ways b none some)
+
+-- a scene is no input and no group
+not_both : (scene group : Bool) → not (scene || group) ≡ true → scene ≡ true → ⊥
+not_both true group input scene = cc
+not_both false group input scene = cc
 
 scene_no_group : (kind : Kind) → is_scene kind ≡ true → is_group kind ≡ false
 scene_no_group Scene scene = refl
@@ -109,8 +98,8 @@ scene_listed g shape x named other =
     let scene : is_scene n.row.kind ≡ true =
     sym (ap (λ o. option_map_or (λ (r : Row). is_scene r.kind) o false) n.found) ∙ passes in
     let here : has x (registry g) ≡ true = subst (λ y. has y (registry g) ≡ true) n.serial
-    (registered (has n.row.serial (registry g)) (is_group n.row.kind) _
-    (scene_no_group n.row.kind scene) n.named) in
+    (or_only (has n.row.serial (registry g)) _ (and_left _ _ (scene_no_group n.row.kind scene))
+    n.named) in
     elim (or_cases (has x g.scenes) (has x g.inputs)
     (sym (list_any-append (λ y. y == x) g.scenes g.inputs) ∙ here)) [
       | inl listed ↦ listed
@@ -118,8 +107,8 @@ scene_listed g shape x named other =
           let input : is_input n.row.kind ≡ true =
           sym (ap (λ o. option_map_or (λ (r : Row). is_input r.kind) o false) n.found)
           ∙ member_passes (row_passes g (λ r. is_input r.kind)) x g.inputs listed
-          shape.inputs_inputs in
-          let never : true ≡ false = not_both n.row.kind scene input in cc
+          shape.parts.registry.inputs_inputs in
+          absurd (not_both (is_scene n.row.kind) (is_group n.row.kind) input scene)
     ]
   where
     passed : (b : Bool) → b ≡ true → (not b || row_passes g (λ r. is_scene r.kind) x) ≡ true →
@@ -127,21 +116,13 @@ scene_listed g shape x named other =
     passed true there h = h
     passed false there h = cc
 
-    registered : (a b c : Bool) → b ≡ false → (a || (b && c)) ≡ true → a ≡ true
-    registered true b c none h = refl
-    registered false true c none h = cc
-    registered false false c none h = cc
-
 module _ (number : ℕ) (channel : Channel) (g : GraphState) (shape : GraphShape g)
     (given : may_be_set g number channel ≡ true)
     (there : list_any (is_missing g) (named_by channel) ≡ false) where
   all_named : list_all (is_named g) (named_by channel) ≡ true
-  all_named = all_imply (λ x. not (is_missing g x)) (is_named g) (λ x. twice (is_named g x))
-      (named_by channel) (none_all (is_missing g) (named_by channel) there)
-    where
-      twice : (b : Bool) → not (not b) ≡ true → b ≡ true
-      twice true h = refl
-      twice false h = cc
+  all_named = all_imply (λ x. not (is_missing g x)) (is_named g)
+      (λ x kept. not-false (is_named g x) (not-true _ kept)) (named_by channel)
+      (none_all (is_missing g) (named_by channel) there)
 
   -- what it names is held
   newly_held : (y : ℕ) → names y channel ≡ true → is_held g y ≡ true
@@ -152,7 +133,7 @@ module _ (number : ℕ) (channel : Channel) (g : GraphState) (shape : GraphShape
   program_fits program =
       let ok : ((is_some channel.0 && is_distinct (named_by channel))
       && list_all (is_no_other g) (named_by channel)) ≡ true =
-      zero_case (number == 0) program given in
+      sym (cond-true (number == 0) _ (not (is_some channel.1)) program) ∙ given in
       and_both _ _ (and_both _ _
       (all_members (λ x. has x g.scenes) (named_by channel) (λ x here.
       scene_listed g shape x (member_passes (is_named g) x (named_by channel) here all_named)
@@ -160,56 +141,32 @@ module _ (number : ℕ) (channel : Channel) (g : GraphState) (shape : GraphShape
       (and_second (is_some channel.0) (is_distinct (named_by channel)) (and_first _ _ ok)))
       (or_left (is_some channel.0) (not (is_some channel.1))
       (and_first (is_some channel.0) (is_distinct (named_by channel)) (and_first _ _ ok)))
-    where
-      zero_case : (b : Bool) → b ≡ true →
-          cond b (is_some channel.0 && is_distinct (named_by channel)
-          && list_all (is_no_other g) (named_by channel)) (not (is_some channel.1)) ≡ true →
-          (is_some channel.0 && is_distinct (named_by channel)
-          && list_all (is_no_other g) (named_by channel)) ≡ true
-      zero_case true is h = h
-      zero_case false is h = cc
 
   side_fits : (number == 0) ≡ false → is_side_channel g channel ≡ true
   side_fits apart =
       and_both _ _ (all_imply (is_named g) (is_child g) (named_is_child g) (named_by channel)
-      all_named) (other_case (number == 0) apart given)
-    where
-      other_case : (b : Bool) → b ≡ false →
-          cond b (is_some channel.0 && is_distinct (named_by channel)
-          && list_all (is_no_other g) (named_by channel)) (not (is_some channel.1)) ≡ true →
-          not (is_some channel.1) ≡ true
-      other_case true is h = cc
-      other_case false is h = h
+      all_named) (sym (cond-false (number == 0) (is_some channel.0
+      && is_distinct (named_by channel) && list_all (is_no_other g) (named_by channel)) _ apart)
+      ∙ given)
 
   pub channel_set_shape : EditedShape (channel_set number channel g)
   unfolding channel_set
   channel_set_shape =
-      let b : Beside = record (beside_of g) { channels = set g.channels number channel } in
-      beside_shape g b shape (record {
-        held = held_less_beside g b
-            (λ y named. (elim (or_cases (list_any (names y) g.channels) (names y channel)
-            (any_set (names y) g.channels number channel named)) [
-              | inl old ↦ channel_holds g y old
-              | inr new ↦ newly_held y new
-            ])) (hold_holds g) (frame_holds g);
-        hold_ids = shape.hold_ids;
-        watch_ids = shape.watch_ids;
-        frame_numbers = shape.frame_numbers;
-        holds_rows = shape.holds_rows;
-        frames_rows = shape.frames_rows;
-        frames_once = shape.frames_once;
-        watched_before = shape.watched_before;
+      let b : BesideFits g = shape.parts.beside in
+      let channels : List Channel = set g.channels number channel in
+      beside_shape g channels g.preview g.holds g.watches g.frames g.clock g.next_hold
+      g.next_watch shape
+      (λ y. any_set (names y) g.channels number channel (is_held g y ≡ true) (channel_holds g y)
+      (newly_held y)) (hold_holds g) (frame_holds g)
+      (record {
         channel_count = ap (λ n. n == 64) (length-set g.channels number channel)
-            ∙ shape.channel_count;
+            ∙ b.channels.channel_count;
         program_channel = first_set (is_program_channel g) g.channels number channel
-            shape.program_channel program_fits;
+            b.channels.program_channel program_fits;
         side_channels = others_set (is_side_channel g) g.channels number channel
-            shape.side_channels side_fits;
-        preview_scene = shape.preview_scene;
-        few_frames = shape.few_frames;
-        few_holds = shape.few_holds;
-        few_watches = shape.few_watches;
+            b.channels.side_channels side_fits;
       })
+      b.preview_scene b.holds b.watches b.frames
 
 -- neither of two that may be given is missing
 pub neither_passes : (t : ℕ → Bool) (first second : Option ℕ) →

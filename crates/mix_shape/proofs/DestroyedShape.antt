@@ -1,62 +1,44 @@
 -- To destroy the first row that dies keeps what holds of the sources.
-use Rattle.std.proofs.Common.{◌≡◌, ℕ, zero, suc, ◌+◌, ◌<◌, ◌≤◌, ◌==◌, Bool, true, false, cond, not}
-use Rattle.std.proofs.Common.{◌&&◌, ◌||◌, List, [], ◌∷◌, ◌++◌, map, filter, drop, length, find}
-use Rattle.std.proofs.Common.{Option, Some, None, refl, ap, sym, ◌∙◌, arith, eqb-true, eq-eqb, is_some}
-use Rattle.std.proofs.Common.{nat_le, nat_lt, le-leb, leb-true, lt-ltb, ltb-true, option_and_then}
-use Rattle.std.specs.List.{list_all, list_any, sum_by}
+use Rattle.std.proofs.Common.{◌≡◌, ℕ, ◌==◌, Bool, true, false, cond, not, ◌&&◌, ◌||◌, List}
+use Rattle.std.proofs.Common.{[], ◌∷◌, map, filter, drop, length, Option, Some, None, refl, ap}
+use Rattle.std.proofs.Common.{sym, ◌∙◌, arith, eqb-true, eq-eqb, is_some, nat_le, le-leb}
+use Rattle.std.proofs.Common.{leb-true, ltb-true, option_and_then}
+use Rattle.std.specs.List.{list_all, list_any}
 use Rattle.std.specs.Option.{option_map_or}
-use Rattle.std.proofs.lemmas.List.Folds.{list_any-append, list_all-map}
-use Rattle.std.proofs.lemmas.List.Filters.{sum_by-filter_both}
+use Rattle.std.proofs.lemmas.Bool.{not-true, not_from_false, or_parts, false_from_ne_true, both_ways}
+use Rattle.std.proofs.lemmas.List.Folds.{list_any-append}
 use Rattle.mix_model.specs.declared.kind.Kind.{Kind}
 use Rattle.mix_model.specs.declared.item.Item.{Item}
 use Rattle.mix_model.specs.declared.row.Row.{Row}
 use Rattle.mix_model.specs.Sets.{has, is_distinct, rises_above}
 use Rattle.mix_model.specs.Rows.{is_at, is_scene, is_input, is_group, all_items, serials_of, shows}
 use Rattle.mix_model.specs.State.{GraphState, Channel, Hold, Frame}
-use Rattle.mix_model.specs.Lookups.{is_row, row_of, row_passes, registry, named_by, find_row}
+use Rattle.mix_model.specs.Lookups.{is_row, row_passes, registry, named_by, find_row}
 use Rattle.mix_model.specs.Holders.{is_held, is_named_row, names, shows_some, is_on, lists}
 use Rattle.mix_model.specs.Ranks.{ranks_fall, ranks_within, weights_within, rank_in, weight_in}
-use Rattle.mix_model.specs.Ranks.{inside_in, inside_of}
+use Rattle.mix_model.specs.Ranks.{inside_in, inside_of, shallow_in}
 use Rattle.mix_model.specs.Values.{are_settings, is_sound, is_place}
 use Rattle.mix_model.specs.Causes.{item_count}
 use Rattle.mix_model.specs.Edits.{next_destroyed, without_first}
-use Rattle.mix_model.specs.Shape.{GraphShape, are_rows, is_child, is_side_channel, is_preview}
-use Rattle.mix_model.specs.Shape.{ids_below, is_bare, names_differ}
+use Rattle.mix_model.specs.Shape.{GraphShape, PartsFit, RowsFit, BesideFits, LimitsKept, are_rows}
+use Rattle.mix_model.specs.Shape.{is_child, is_side_channel, is_preview, ids_below, is_bare}
+use Rattle.mix_model.specs.Shape.{names_differ}
 use Rattle.mix_model.specs.EditedShape.{EditedShape}
-use Rattle.mix_model.proofs.SetLemmas.{and_both, and_first, and_second}
-use Rattle.mix_model.proofs.DyingLemmas.{all_members, member_passes}
+use Rattle.mix_model.proofs.SetLemmas.{and_both, and_first, and_second, and_imply, or_imply, or_left}
+use Rattle.mix_model.proofs.SetLemmas.{all_imply}
+use Rattle.mix_model.proofs.DistinctLemmas.{all_filter}
 use Rattle.mix_model.proofs.DestroyLemmas.{destroyed_unheld}
-use Rattle.mix_model.proofs.FallLemmas.{shallow_falls_in}
+use Rattle.mix_model.proofs.FallLemmas.{shallow_falls_in, rises_lower}
 use Rattle.mix_model.proofs.EditShape.{edited_of}
-use Rattle.mix_shape.proofs.ThinnerLemmas.{all_imply, none_all, all_none, Lighter, none_lighter}
-use Rattle.mix_shape.proofs.ThinnerLemmas.{same_lighter, shallow_lighter, light_lighter}
-use Rattle.mix_shape.proofs.NameLemmas.{HeldLess, or_imply, and_imply, named_less, differ_fewer}
-use Rattle.mix_shape.proofs.NameLemmas.{unheld_less}
-use Rattle.mix_shape.proofs.RemovedShape.{all_kept, all_both}
-use Rattle.mix_shape.proofs.NamedLemmas.{filter_length, any_kept}
-use Rattle.std.proofs.lemmas.Bool.{not-true}
+use Rattle.mix_shape.proofs.TestLemmas.{all_unless, none_dropped, any_kept, filter_both}
+use Rattle.mix_shape.proofs.SumLemmas.{sum_part}
+use Rattle.mix_shape.proofs.ThinnerLemmas.{Lighter, none_lighter, same_lighter, shallow_lighter}
+use Rattle.mix_shape.proofs.ThinnerLemmas.{light_lighter}
+use Rattle.mix_shape.proofs.NameLemmas.{HeldLess, named_less, differ_fewer, unheld_less}
+use Rattle.mix_shape.proofs.NamedLemmas.{filter_length}
+use Rattle.mix_shape.proofs.DestroyLemmas.{below_left}
 
--- two filters, one after the other
-filter_both : {X : Type 0} (p q : X → Bool) (xs : List X) →
-    filter p (filter q xs) ≡ filter (λ x. q x && p x) xs
-filter_both p q [] = refl
-filter_both {X} p q (x ∷ xs) = here (q x) (p x) refl (filter_both p q xs)
-  where
-    here : (b c : Bool) → p x ≡ c → filter p (filter q xs) ≡ filter (λ y. q y && p y) xs →
-        filter p (cond b (x ∷ filter q xs) (filter q xs))
-        ≡ cond (b && c) (x ∷ filter (λ y. q y && p y) xs) (filter (λ y. q y && p y) xs)
-    here true true same rest = rw (same, rest)
-    here true false same rest = rw (same, rest)
-    here false c same rest = rest
-
--- a list that rises above a number rises above each lower one, and so do parts of it
-pub rises_lower : (m n : ℕ) (xs : List ℕ) → m < n → rises_above n xs ≡ true →
-    rises_above m xs ≡ true
-rises_lower m n [] low h = refl
-rises_lower m n (x ∷ xs) low h =
-    let above : n < x = ltb-true n x (and_first _ _ h) in
-    and_both _ _ (lt-ltb m x (omega (arith, low, above))) (and_second _ _ h)
-
+-- parts of a list that rises rise
 pub rises_kept : (p : Row → Bool) (m : ℕ) (rows : List Row) →
     rises_above m (serials_of rows) ≡ true → rises_above m (serials_of (filter p rows)) ≡ true
 rises_kept p m [] h = refl
@@ -68,15 +50,6 @@ rises_kept p m (r ∷ rows) h =
     here true rest = and_both _ _ (and_first _ _ h) rest
     here false rest = rises_lower m r.serial (serials_of (filter p rows))
         (ltb-true m r.serial (and_first _ _ h)) rest
-
-parts : (a b : Bool) → (a || b) ≡ false → (a ≡ false) × (b ≡ false)
-parts true b h = cc
-parts false b h = (refl, h)
-
-all_dropped : {X : Type 0} (p : X → Bool) (xs : List X) → list_all p xs ≡ true →
-    list_all p (drop 1 xs) ≡ true
-all_dropped p [] all = refl
-all_dropped p (x ∷ xs) all = and_second _ _ all
 
 -- rows without that of one serial
 module _ (x : ℕ) where
@@ -90,21 +63,13 @@ module _ (x : ℕ) where
   other_found y other [] = refl
   other_found y other (r ∷ rows) = here (is_at x r) refl (other_found y other rows)
     where
-      apart : (b : Bool) → (r.serial == y) ≡ b → r.serial ≡ x → b ≡ false
-      apart false is same = refl
-      apart true is same =
-          let own : y ≡ x = sym (eqb-true r.serial y is) ∙ same in
-          let never : (y == x) ≡ true = ap (λ z. z == x) own ∙ equal x in
-          sym never ∙ other
-        where
-          equal : (z : ℕ) → (z == z) ≡ true
-          equal z = eq-eqb z z refl
-
       here : (b : Bool) → is_at x r ≡ b → find_row (filter keep rows) y ≡ find_row rows y →
           find_row (cond (not b) (r ∷ filter keep rows) (filter keep rows)) y
           ≡ cond (r.serial == y) (Some r) (find_row rows y)
       here true same rest =
-          rw (apart (r.serial == y) refl (eqb-true r.serial x same)) rest
+          let apart : (r.serial == y) ≡ false = false_from_ne_true _ (λ is. both_ways _ other
+          (eq-eqb y x (sym (eqb-true r.serial y is) ∙ eqb-true r.serial x same))) in
+          rw apart rest
       here false same rest = ap (cond (r.serial == y) (Some r)) rest
 
   pub own_gone : (rows : List Row) → find_row (filter keep rows) x ≡ None
@@ -133,6 +98,9 @@ module _ (x : ℕ) where
 
 module _ (x : ℕ) (rest : List ℕ) (g : GraphState) (shape : GraphShape g)
     (first : g.dying ≡ x ∷ rest) where
+  abbrev p : PartsFit g
+  p = shape.parts
+
   abbrev left : List Row
   left = filter (keep x) g.rows
 
@@ -147,28 +115,17 @@ module _ (x : ℕ) (rest : List ℕ) (g : GraphState) (shape : GraphShape g)
   unheld = destroyed_unheld g shape x rest first
 
   unlisted : has x (registry g) ≡ false
-  unlisted = (parts _ _ unheld).0
+  unlisted = (or_parts _ _ unheld).0
 
-  unnamed : list_any (names x) g.channels ≡ false
-  unnamed = (parts _ _ (parts (has x (registry g)) _ unheld).1).0
+  -- neither does a channel, an item, a hold or a frame
+  unnamed_on : (list_any (names x) g.channels ≡ false)
+      × ((list_any (shows_some x) g.rows || (list_any (is_on x) g.holds || list_any (lists x) g.frames))
+      ≡ false)
+  unnamed_on = or_parts _ _ (or_parts (has x (registry g)) _ unheld).1
 
-  unshown : list_any (shows_some x) g.rows ≡ false
-  unshown = (parts _ _ (parts (list_any (names x) g.channels) _
-      (parts (has x (registry g)) _ unheld).1).1).0
-
-  unkept : (list_any (is_on x) g.holds || list_any (lists x) g.frames) ≡ false
-  unkept = (parts (list_any (shows_some x) g.rows) _ (parts (list_any (names x) g.channels) _
-      (parts (has x (registry g)) _ unheld).1).1).1
-
-  -- a number in a list that x isn't in differs from it
-  differs : (xs : List ℕ) → has x xs ≡ false → (y : ℕ) → has y xs ≡ true → (y == x) ≡ false
-  differs xs none y here = apart (y == x) refl
-    where
-      apart : (b : Bool) → (y == x) ≡ b → b ≡ false
-      apart false is = refl
-      apart true is =
-          let same : y ≡ x = eqb-true y x is in
-          sym (sym none ∙ ap (λ z. has z xs) (sym same) ∙ here)
+  unshown_on : (list_any (shows_some x) g.rows ≡ false)
+      × ((list_any (is_on x) g.holds || list_any (lists x) g.frames) ≡ false)
+  unshown_on = or_parts _ _ unnamed_on.1
 
   row_left : (y : ℕ) → (y == x) ≡ false → is_row gone y ≡ is_row g y
   row_left y other = ap is_some (other_found x y other g.rows)
@@ -182,15 +139,15 @@ module _ (x : ℕ) (rest : List ℕ) (g : GraphState) (shape : GraphShape g)
   child_left y other = ap (λ b. has y (registry g) || b) (kind_left is_group y other)
 
   rows_left : (xs : List ℕ) → has x xs ≡ false → are_rows g xs ≡ true → are_rows gone xs ≡ true
-  rows_left xs none all = all_members (is_row gone) xs (λ y here.
-      row_left y (differs xs none y here) ∙ member_passes (is_row g) y xs here all)
+  rows_left = all_unless (is_row g) (is_row gone) (λ y. y == x)
+      (λ y other here. row_left y other ∙ here)
 
   passes_left : (test : Kind → Bool) (xs : List ℕ) → has x xs ≡ false →
       list_all (row_passes g (λ r. test r.kind)) xs ≡ true →
       list_all (row_passes gone (λ r. test r.kind)) xs ≡ true
-  passes_left test xs none all = all_members (row_passes gone (λ r. test r.kind)) xs (λ y here.
-      kind_left test y (differs xs none y here)
-      ∙ member_passes (row_passes g (λ r. test r.kind)) y xs here all)
+  passes_left test = all_unless (row_passes g (λ r. test r.kind))
+      (row_passes gone (λ r. test r.kind)) (λ y. y == x)
+      (λ y other here. kind_left test y other ∙ here)
 
   held_less : HeldLess g gone
   unfolding is_held
@@ -203,56 +160,34 @@ module _ (x : ℕ) (rest : List ℕ) (g : GraphState) (shape : GraphShape g)
   any_on y [] = refl
   any_on y (h ∷ holds) = ap (λ b. (h.serial == y) || b) (any_on y holds)
 
-  item_left : (i : Item) →
-      ((is_row g i.child && is_child g i.child) && not (shows x i)) ≡ true →
-      (is_row gone i.child && is_child gone i.child) ≡ true
-  item_left i h =
-      let other : (i.child == x) ≡ false = not-true _ (and_second _ _ h) in
-      rw (row_left i.child other, child_left i.child other) (and_first _ _ h)
-
-  row_items_left : (r : Row) →
-      (list_all (λ i. is_row g i.child && is_child g i.child) r.items && not (shows_some x r))
-      ≡ true → list_all (λ i. is_row gone i.child && is_child gone i.child) r.items ≡ true
-  row_items_left r h =
-      all_imply (λ (i : Item). (is_row g i.child && is_child g i.child) && not (shows x i))
-      (λ (i : Item). is_row gone i.child && is_child gone i.child) item_left r.items
-      (all_both (λ (i : Item). is_row g i.child && is_child g i.child) (λ i. not (shows x i))
-      r.items (and_first _ _ h) (none_all (shows x) r.items (not-true _ (and_second _ _ h))))
-
   children_left : all_items (λ r i. is_row gone i.child && is_child gone i.child) left ≡ true
   children_left =
-      all_kept (λ (r : Row). list_all (λ i. is_row gone i.child && is_child gone i.child) r.items)
+      all_filter (λ (r : Row). list_all (λ i. is_row gone i.child && is_child gone i.child) r.items)
       (keep x) g.rows
-      (all_imply (λ (r : Row). list_all (λ i. is_row g i.child && is_child g i.child) r.items
-      && not (shows_some x r))
+      (all_unless (λ (r : Row). list_all (λ i. is_row g i.child && is_child g i.child) r.items)
       (λ (r : Row). list_all (λ i. is_row gone i.child && is_child gone i.child) r.items)
-      row_items_left g.rows
-      (all_both (λ (r : Row). list_all (λ i. is_row g i.child && is_child g i.child) r.items)
-      (λ r. not (shows_some x r)) g.rows shape.children_rows
-      (none_all (shows_some x) g.rows unshown)))
+      (shows_some x)
+      (λ r. all_unless (λ (i : Item). is_row g i.child && is_child g i.child)
+      (λ (i : Item). is_row gone i.child && is_child gone i.child) (shows x)
+      (λ i other. rw (row_left i.child other, child_left i.child other) (λ both. both)) r.items)
+      g.rows unshown_on.0 p.rows.children_rows)
 
-  side_left : (c : Channel) → (is_side_channel g c && not (names x c)) ≡ true →
+  side_left : (c : Channel) → names x c ≡ false → is_side_channel g c ≡ true →
       is_side_channel gone c ≡ true
-  side_left c h =
-      let none : has x (named_by c) ≡ false = not-true _ (and_second _ _ h) in
-      and_imply (list_all (is_child g) (named_by c)) (not (is_some c.1)) _ _
-      (λ children. all_members (is_child gone) (named_by c) (λ y here.
-      child_left y (differs (named_by c) none y here)
-      ∙ member_passes (is_child g) y (named_by c) here children)) (λ d. d)
-      (and_first _ _ h)
+  side_left c none = and_imply (list_all (is_child g) (named_by c)) (not (is_some c.1)) _ _
+      (all_unless (is_child g) (is_child gone) (λ y. y == x)
+      (λ y other here. child_left y other ∙ here) (named_by c) none) (λ d. d)
 
   preview_left : (o : Option ℕ) → is_preview g o ≡ true → is_preview gone o ≡ true
   preview_left None ok = refl
   preview_left (Some y) ok =
       and_both _ _ (and_first _ _ ok) (here (y == x) refl (and_second _ _ ok))
     where
-      gone_row : (y ≡ x) → is_row gone y ≡ false
-      gone_row same = ap (is_row gone) same ∙ ap is_some (own_gone x g.rows)
-
       here : (b : Bool) → (y == x) ≡ b →
           (not (is_row g y) || row_passes g (λ r. is_scene r.kind) y) ≡ true →
           (not (is_row gone y) || row_passes gone (λ r. is_scene r.kind) y) ≡ true
-      here true same h = rw (gone_row (eqb-true y x same))
+      here true same h = or_left _ _ (not_from_false _
+          (ap (is_row gone) (eqb-true y x same) ∙ ap is_some (own_gone x g.rows)))
       here false other h = rw (row_left y other, kind_left is_scene y other) h
 
   names_left : names_differ (filter (is_named_row gone) left) ≡ true
@@ -261,100 +196,102 @@ module _ (x : ℕ) (rest : List ℕ) (g : GraphState) (shape : GraphShape g)
       (λ r h. named_less g gone held_less (λ y listed. listed) r (and_second _ _ h))
       g.rows shape.names
 
-  shallow_left : list_all (λ r. nat_le (rank_in left r.serial) 16) left ≡ true
-  unfolding ranks_within
-  shallow_left = all_kept (λ (r : Row). nat_le (rank_in left r.serial) 16) (keep x) g.rows
+  limits_left : LimitsKept gone
+  unfolding ranks_fall ranks_within weights_within
+  limits_left =
+      let limits : LimitsKept g = shape.limits in
+      let low : shallow_in 16 left ≡ true =
+      all_filter (λ (r : Row). nat_le (rank_in left r.serial) 16) (keep x) g.rows
       (all_imply (λ (r : Row). nat_le (rank_in g.rows r.serial) 16)
       (λ (r : Row). nat_le (rank_in left r.serial) 16)
-      (shallow_lighter 16 g.rows left (lighter_left x g.rows)) g.rows shape.shallow)
+      (shallow_lighter 16 g.rows left (lighter_left x g.rows)) g.rows limits.shallow) in
+      record {
+        few_rows = filter_length (keep x) 512 g.rows limits.few_rows;
+        few_items = le-leb (item_count left) 2048 (omega (
+          arith,
+          leb-true (item_count g.rows) 2048 limits.few_items,
+          sum_part (λ (r : Row). length r.items) (keep x) g.rows,
+        ));
+        light = all_filter (λ (r : Row). nat_le (weight_in left r.serial) 4096) (keep x) g.rows
+            (all_imply (λ (r : Row). nat_le (weight_in g.rows r.serial) 4096)
+            (λ (r : Row). nat_le (weight_in left r.serial) 4096)
+            (light_lighter 4096 g.rows left (lighter_left x g.rows)) g.rows limits.light);
+        shallow = low;
+        falling = shallow_falls_in left (rises_kept (keep x) 0 g.rows p.rows.serials_rise)
+            (all_filter is_bare (keep x) g.rows p.rows.inputs_bare) low;
+      }
 
-  light_left : list_all (λ r. nat_le (weight_in left r.serial) 4096) left ≡ true
-  unfolding weights_within
-  light_left = all_kept (λ (r : Row). nat_le (weight_in left r.serial) 4096) (keep x) g.rows
-      (all_imply (λ (r : Row). nat_le (weight_in g.rows r.serial) 4096)
-      (λ (r : Row). nat_le (weight_in left r.serial) 4096)
-      (light_lighter 4096 g.rows left (lighter_left x g.rows)) g.rows shape.light)
+  rows_kept : RowsFit gone
+  rows_kept = record {
+    serials_rise = rises_kept (keep x) 0 g.rows p.rows.serials_rise;
+    serials_start = p.rows.serials_start;
+    serials_below = below_left g.next_serial (keep x) g.rows p.rows.serials_below;
+    item_ids = all_filter (λ (r : Row). ids_below r.next_item (map (λ i. i.id) r.items)) (keep x)
+        g.rows p.rows.item_ids;
+    children_rows = children_left;
+    inputs_bare = all_filter is_bare (keep x) g.rows p.rows.inputs_bare;
+    settings_fit = all_filter (λ (r : Row). are_settings r.kind r.settings && is_sound r.sound)
+        (keep x) g.rows p.rows.settings_fit;
+    places_fit = all_filter (λ (r : Row). list_all (λ i. is_place i.place) r.items) (keep x) g.rows
+        p.rows.places_fit;
+  }
 
-  bare_left : list_all is_bare left ≡ true
-  bare_left = all_kept is_bare (keep x) g.rows shape.inputs_bare
+  beside_kept : BesideFits gone
+  beside_kept = record {
+    holds = record {
+      hold_ids = p.beside.holds.hold_ids;
+      holds_rows = rows_left (map (λ h. h.serial) g.holds)
+          (any_on x g.holds ∙ (or_parts (list_any (is_on x) g.holds) _ unshown_on.1).0)
+          p.beside.holds.holds_rows;
+      few_holds = p.beside.holds.few_holds;
+    };
+    watches = p.beside.watches;
+    frames = record {
+      frame_numbers = p.beside.frames.frame_numbers;
+      frames_rows = all_unless (λ (f : Frame). are_rows g f.serials)
+          (λ (f : Frame). are_rows gone f.serials) (lists x) (λ f. rows_left f.serials) g.frames
+          (or_parts (list_any (is_on x) g.holds) _ unshown_on.1).1 p.beside.frames.frames_rows;
+      frames_once = p.beside.frames.frames_once;
+      few_frames = p.beside.frames.few_frames;
+    };
+    channels = record {
+      channel_count = p.beside.channels.channel_count;
+      program_channel = p.beside.channels.program_channel;
+      side_channels = all_unless (is_side_channel g) (is_side_channel gone) (names x) side_left
+          (drop 1 g.channels) (none_dropped (names x) g.channels unnamed_on.0)
+          p.beside.channels.side_channels;
+    };
+    preview_scene = preview_left g.preview p.beside.preview_scene;
+  }
 
-  items_left : nat_le (item_count left) 2048 ≡ true
-  items_left = le-leb (item_count left) 2048 (omega (
-    arith,
-    leb-true (item_count g.rows) 2048 shape.few_items,
-    sum_by-filter_both (keep x) (λ r. not (keep x r)) (λ r. refl)
-        (λ (r : Row). length r.items) g.rows,
-  ))
-
-  dying_is : list_all (is_row g) (x ∷ rest) ≡ true
-  dying_is = ap (list_all (is_row g)) (sym first) ∙ shape.dying_rows
-
+  -- the first that dies isn't in the rest
   once_is : is_distinct (x ∷ rest) ≡ true
-  once_is = ap is_distinct (sym first) ∙ shape.dying_once
-
-  unheld_is : list_all (λ y. not (is_held g y)) (x ∷ rest) ≡ true
-  unheld_is = ap (list_all (λ y. not (is_held g y))) (sym first)
-      ∙ (edited_of g shape).dying_unheld
+  once_is = ap is_distinct (sym first) ∙ p.dying.dying_once
 
   pub destroyed_shape : EditedShape gone
-  unfolding ranks_fall ranks_within weights_within
-  destroyed_shape = record {
-    serials_rise = rises_kept (keep x) 0 g.rows shape.serials_rise;
-    serials_start = shape.serials_start;
-    serials_below = list_all-map (λ y. nat_lt y g.next_serial) (λ (r : Row). r.serial) left
-        ∙ all_kept (λ (r : Row). nat_lt r.serial g.next_serial) (keep x) g.rows
-        (sym (list_all-map (λ y. nat_lt y g.next_serial) (λ (r : Row). r.serial) g.rows)
-        ∙ shape.serials_below);
-    item_ids = all_kept (λ (r : Row). ids_below r.next_item (map (λ i. i.id) r.items)) (keep x)
-        g.rows shape.item_ids;
-    hold_ids = shape.hold_ids;
-    watch_ids = shape.watch_ids;
-    frame_numbers = shape.frame_numbers;
-    holds_rows = rows_left (map (λ h. h.serial) g.holds)
-        (any_on x g.holds ∙ (parts (list_any (is_on x) g.holds) _ unkept).0) shape.holds_rows;
-    frames_rows = all_imply (λ (f : Frame). are_rows g f.serials && not (lists x f))
-        (λ (f : Frame). are_rows gone f.serials)
-        (λ f h. rows_left f.serials (not-true _ (and_second _ _ h)) (and_first _ _ h)) g.frames
-        (all_both (λ (f : Frame). are_rows g f.serials) (λ f. not (lists x f)) g.frames
-        shape.frames_rows
-        (none_all (lists x) g.frames (parts (list_any (is_on x) g.holds) _ unkept).1));
-    frames_once = shape.frames_once;
-    watched_before = shape.watched_before;
-    scenes_scenes = passes_left is_scene g.scenes
-        (parts (has x g.scenes) _ (sym (list_any-append (λ y. y == x) g.scenes g.inputs)
-        ∙ unlisted)).0 shape.scenes_scenes;
-    inputs_inputs = passes_left is_input g.inputs
-        (parts (has x g.scenes) _ (sym (list_any-append (λ y. y == x) g.scenes g.inputs)
-        ∙ unlisted)).1 shape.inputs_inputs;
-    registry_once = shape.registry_once;
-    children_rows = children_left;
-    falling = shallow_falls_in left (rises_kept (keep x) 0 g.rows shape.serials_rise) bare_left
-        shallow_left;
-    inputs_bare = bare_left;
-    channel_count = shape.channel_count;
-    program_channel = shape.program_channel;
-    side_channels = all_imply (λ c. is_side_channel g c && not (names x c)) (is_side_channel gone)
-        side_left (drop 1 g.channels)
-        (all_both (is_side_channel g) (λ c. not (names x c)) (drop 1 g.channels)
-        shape.side_channels
-        (all_dropped (λ c. not (names x c)) g.channels (none_all (names x) g.channels unnamed)));
-    preview_scene = preview_left g.preview shape.preview_scene;
-    names = names_left;
-    dying_rows = rows_left rest (not-true _ (and_first _ _ once_is)) (and_second _ _ dying_is);
-    dying_unheld = unheld_less g gone held_less rest (and_second _ _ unheld_is);
-    dying_once = and_second _ _ once_is;
-    settings_fit = all_kept (λ (r : Row). are_settings r.kind r.settings && is_sound r.sound)
-        (keep x) g.rows shape.settings_fit;
-    places_fit = all_kept (λ (r : Row). list_all (λ i. is_place i.place) r.items) (keep x) g.rows
-        shape.places_fit;
-    few_rows = filter_length (keep x) 512 g.rows shape.few_rows;
-    few_items = items_left;
-    light = light_left;
-    shallow = shallow_left;
-    few_frames = shape.few_frames;
-    few_holds = shape.few_holds;
-    few_watches = shape.few_watches;
-  }
+  destroyed_shape =
+      let apart = or_parts (has x g.scenes) _
+      (sym (list_any-append (λ y. y == x) g.scenes g.inputs) ∙ unlisted) in
+      record {
+        parts = record {
+          rows = rows_kept;
+          registry = record {
+            scenes_scenes = passes_left is_scene g.scenes apart.0 p.registry.scenes_scenes;
+            inputs_inputs = passes_left is_input g.inputs apart.1 p.registry.inputs_inputs;
+            registry_once = p.registry.registry_once;
+          };
+          beside = beside_kept;
+          dying = record {
+            dying_rows = rows_left rest (not-true _ (and_first _ _ once_is)) (and_second _ _
+                (ap (list_all (is_row g)) (sym first) ∙ p.dying.dying_rows));
+            none_held = unheld_less g gone held_less rest (and_second _ _
+                (ap (list_all (λ y. not (is_held g y))) (sym first) ∙ p.dying.none_held));
+            dying_once = and_second _ _ once_is;
+          };
+        };
+        limits = limits_left;
+        names = names_left;
+      }
 
 first_shape : (g : GraphState) → GraphShape g → (xs : List ℕ) → g.dying ≡ xs →
     EditedShape (without_first xs g)

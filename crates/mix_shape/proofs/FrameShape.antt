@@ -1,8 +1,8 @@
 -- A frame in flight holds rows that were held: it keeps what holds of the sources, and so does its
 -- end.
-use Rattle.std.proofs.Common.{◌≡◌, ℕ, zero, suc, ◌+◌, ◌==◌, Bool, true, false, cond, not, ◌||◌}
+use Rattle.std.proofs.Common.{◌≡◌, ℕ, zero, suc, ◌+◌, ◌==◌, Bool, true, not, ◌||◌}
 use Rattle.std.proofs.Common.{List, [], ◌∷◌, ◌++◌, map, filter, length, Option, Some, None, refl}
-use Rattle.std.proofs.Common.{ap, sym, ◌∙◌, nat_lt, flat_map, find, subst, inl, inr}
+use Rattle.std.proofs.Common.{ap, sym, ◌∙◌, nat_lt, flat_map, inl, inr}
 use Rattle.std.specs.List.{list_any}
 use Rattle.std.specs.Option.{option_map_or}
 use Rattle.std.proofs.lemmas.List.{map-append}
@@ -17,45 +17,30 @@ use Rattle.mix_model.specs.Holders.{is_held, names, shows_some, lists}
 use Rattle.mix_model.specs.Walks.{leads, is_walked, is_active, active_rows}
 use Rattle.mix_model.specs.Causes.{frame_cause}
 use Rattle.mix_model.specs.Edits.{frame_held, frame_released}
-use Rattle.mix_model.specs.Shape.{GraphShape, are_rows}
+use Rattle.mix_model.specs.Shape.{GraphShape, BesideFits, are_rows}
 use Rattle.mix_model.specs.EditedShape.{EditedShape}
 use Rattle.mix_model.proofs.SetLemmas.{and_both, and_first, and_second, any_member, or_cases}
-use Rattle.mix_model.proofs.SetLemmas.{or_left, or_right}
+use Rattle.mix_model.proofs.SetLemmas.{or_imply}
 use Rattle.mix_model.proofs.DyingLemmas.{has_filter}
 use Rattle.mix_model.proofs.DistinctLemmas.{distinct_append, distinct_filter, rises_distinct}
 use Rattle.mix_model.proofs.DistinctLemmas.{serials_there, all_filter}
-use Rattle.mix_shape.proofs.NameLemmas.{or_imply}
-use Rattle.mix_shape.proofs.RemovedShape.{all_kept}
-use Rattle.mix_shape.proofs.BesideShape.{Beside, beside_shape, beside_of, channel_holds, item_holds}
-use Rattle.mix_shape.proofs.BesideShape.{hold_holds, frame_holds}
-use Rattle.mix_shape.proofs.NamedLemmas.{no_cause, times_fewer, filter_length, any_kept}
-use Rattle.mix_shape.proofs.HoldShape.{length_more, held_on, end_or, same_held}
+use Rattle.mix_shape.proofs.TestLemmas.{any_kept, any_last, found_any}
+use Rattle.mix_shape.proofs.NameLemmas.{channel_holds, item_holds, hold_holds, frame_holds}
+use Rattle.mix_shape.proofs.BesideShape.{beside_shape}
+use Rattle.mix_shape.proofs.NamedLemmas.{no_cause, times_fewer, filter_length}
+use Rattle.mix_shape.proofs.HoldShape.{length_more, held_on}
 
--- some of the rows pass where one that a look-up finds passes
-pub found_any : (p q : Row → Bool) (rows : List Row) (r : Row) → find p rows ≡ Some r →
-    q r ≡ true → list_any q rows ≡ true
-found_any p q [] r found passes = cc
-found_any p q (s ∷ rows) r found passes = here (found_any p q rows) (p s) found
-  where
-    here : ((r : Row) → find p rows ≡ Some r → q r ≡ true → list_any q rows ≡ true) →
-        (b : Bool) → cond b (Some s) (find p rows) ≡ Some r → (q s || list_any q rows) ≡ true
-    here rest true found = let same : s ≡ r = cc in
-        or_left _ _ (subst (λ z. q z ≡ true) (sym same) passes)
-    here rest false found = or_right _ _ (rest r found passes)
+any_children : (c : ℕ) (items : List Item) →
+    has c (map (λ i. i.child) items) ≡ list_any (shows c) items
+any_children c [] = refl
+any_children c (i ∷ items) = ap (λ b. (i.child == c) || b) (any_children c items)
 
 -- what a visible item shows, an item shows
 visible_shown : (c : ℕ) (items : List Item) →
     has c (map (λ i. i.child) (filter is_visible items)) ≡ true →
     list_any (shows c) items ≡ true
-visible_shown c [] h = h
-visible_shown c (i ∷ items) h = here (visible_shown c items) (is_visible i) h
-  where
-    here : (has c (map (λ j. j.child) (filter is_visible items)) ≡ true →
-        list_any (shows c) items ≡ true) → (b : Bool) →
-        has c (map (λ j. j.child) (cond b (i ∷ filter is_visible items) (filter is_visible items)))
-        ≡ true → (shows c i || list_any (shows c) items) ≡ true
-    here rest true h = or_imply _ _ _ _ (λ a. a) rest h
-    here rest false h = or_right _ _ (rest h)
+visible_shown c items h =
+    any_kept (shows c) is_visible items (sym (any_children c (filter is_visible items)) ∙ h)
 
 child_shown : (rows : List Row) (from c : ℕ) (o : Option Row) → find_row rows from ≡ o →
     has c (option_map_or visible_children_of o []) ≡ true → list_any (shows_some c) rows ≡ true
@@ -102,63 +87,46 @@ pub frame_held_shape : (number : ℕ) (g : GraphState) → GraphShape g → fram
     EditedShape (frame_held number g)
 unfolding frame_held frame_cause
 frame_held_shape number g shape none fresh =
+    let b : BesideFits g = shape.parts.beside in
     let first = no_cause (nat_lt 4 (length g.frames + 1)) _ _ none in
     let new : Frame = record { number = number; serials = active_rows g } in
-    let b : Beside = record (beside_of g) { frames = g.frames ++ new ∷ [] } in
-    beside_shape g b shape (record {
-      held = same_held g b refl (hold_holds g)
-          (λ y listed. (elim (or_cases (list_any (lists y) g.frames) (has y (active_rows g))
-          (end_or _ _ (sym (list_any-append (lists y) g.frames (new ∷ [])) ∙ listed))) [
-            | inl old ↦ frame_holds g y old
-            | inr here ↦ active_held g y (and_first _ _
-                (sym (has_filter (is_active g) y (serials_of g.rows)) ∙ here))
-          ]));
-      hold_ids = shape.hold_ids;
-      watch_ids = shape.watch_ids;
+    let frames : List Frame = g.frames ++ new ∷ [] in
+    beside_shape g g.channels g.preview g.holds g.watches frames g.clock g.next_hold g.next_watch
+    shape
+    (channel_holds g) (hold_holds g) (λ y. any_last (lists y) g.frames new (is_held g y ≡ true) (frame_holds g y)
+    (λ here. active_held g y (and_first _ _
+    (sym (has_filter (is_active g) y (serials_of g.rows)) ∙ here))))
+    b.channels b.preview_scene b.holds b.watches
+    (record {
       frame_numbers = ap is_distinct (map-append (λ (f : Frame). f.number) g.frames (new ∷ []))
           ∙ distinct_append (map (λ (f : Frame). f.number) g.frames) (number ∷ [])
-          shape.frame_numbers refl
+          b.frames.frame_numbers refl
           (and_both _ _ (ap not (any_number number g.frames) ∙ fresh) refl);
-      holds_rows = shape.holds_rows;
       frames_rows = list_all-append (λ (f : Frame). are_rows g f.serials) g.frames (new ∷ [])
-          ∙ and_both _ _ shape.frames_rows (and_both _ _
+          ∙ and_both _ _ b.frames.frames_rows (and_both _ _
           (all_filter (is_row g) (is_active g) (serials_of g.rows) (serials_there g.rows)) refl);
       frames_once = list_all-append (λ (f : Frame). is_distinct f.serials) g.frames (new ∷ [])
-          ∙ and_both _ _ shape.frames_once (and_both _ _
+          ∙ and_both _ _ b.frames.frames_once (and_both _ _
           (distinct_filter (is_active g) (serials_of g.rows)
-          (rises_distinct 0 (serials_of g.rows) shape.serials_rise)) refl);
-      watched_before = shape.watched_before;
-      channel_count = shape.channel_count;
-      program_channel = shape.program_channel;
-      side_channels = shape.side_channels;
-      preview_scene = shape.preview_scene;
+          (rises_distinct 0 (serials_of g.rows) shape.parts.rows.serials_rise)) refl);
       few_frames = length_more g.frames new 4 first.0;
-      few_holds = shape.few_holds;
-      few_watches = shape.few_watches;
     })
 
 pub frame_released_shape : (number : ℕ) (g : GraphState) → GraphShape g →
     EditedShape (frame_released number g)
 unfolding frame_released
 frame_released_shape number g shape =
+    let b : BesideFits g = shape.parts.beside in
     let kept : Frame → Bool = λ f. not (f.number == number) in
-    let b : Beside = record (beside_of g) { frames = filter kept g.frames } in
-    beside_shape g b shape (record {
-      held = same_held g b refl (hold_holds g)
-          (λ y listed. frame_holds g y (any_kept (lists y) kept g.frames listed));
-      hold_ids = shape.hold_ids;
-      watch_ids = shape.watch_ids;
-      frame_numbers = times_fewer (λ (f : Frame). f.number) kept g.frames shape.frame_numbers;
-      holds_rows = shape.holds_rows;
-      frames_rows = all_kept (λ (f : Frame). are_rows g f.serials) kept g.frames shape.frames_rows;
-      frames_once = all_kept (λ (f : Frame). is_distinct f.serials) kept g.frames
-          shape.frames_once;
-      watched_before = shape.watched_before;
-      channel_count = shape.channel_count;
-      program_channel = shape.program_channel;
-      side_channels = shape.side_channels;
-      preview_scene = shape.preview_scene;
-      few_frames = filter_length kept 4 g.frames shape.few_frames;
-      few_holds = shape.few_holds;
-      few_watches = shape.few_watches;
+    beside_shape g g.channels g.preview g.holds g.watches (filter kept g.frames) g.clock
+    g.next_hold g.next_watch shape
+    (channel_holds g) (hold_holds g) (λ y listed. frame_holds g y (any_kept (lists y) kept g.frames listed))
+    b.channels b.preview_scene b.holds b.watches
+    (record {
+      frame_numbers = times_fewer (λ (f : Frame). f.number) kept g.frames b.frames.frame_numbers;
+      frames_rows = all_filter (λ (f : Frame). are_rows g f.serials) kept g.frames
+          b.frames.frames_rows;
+      frames_once = all_filter (λ (f : Frame). is_distinct f.serials) kept g.frames
+          b.frames.frames_once;
+      few_frames = filter_length kept 4 g.frames b.frames.few_frames;
     })

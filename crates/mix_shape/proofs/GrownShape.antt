@@ -1,34 +1,32 @@
 -- A new row keeps what holds of the sources, whatever its limits and its name.
-use Rattle.std.proofs.Common.{◌≡◌, ℕ, ◌+◌, ◌<◌, ◌≤◌, ◌==◌, Bool, true, false, cond, not, ◌&&◌, ◌||◌}
-use Rattle.std.proofs.Common.{List, [], ◌∷◌, ◌++◌, map, length, take, drop, find, Option, Some, None}
-use Rattle.std.proofs.Common.{refl, ap, sym, ◌∙◌, nat_lt, is_some, eqb-true, eq-eqb, arith, lt-ltb}
-use Rattle.std.proofs.Common.{ltb-true, ne_eqb}
-use Rattle.std.specs.List.{list_all, list_any}
+use Rattle.std.proofs.Common.{◌≡◌, ℕ, ◌+◌, ◌<◌, ◌≤◌, ◌==◌, Bool, true, false, cond, not, ◌&&◌}
+use Rattle.std.proofs.Common.{List, [], ◌∷◌, ◌++◌, map, find, Option, Some, None, refl, ap, sym, ◌∙◌}
+use Rattle.std.proofs.Common.{nat_lt, is_some, eqb-true, eq-eqb, arith, lt-ltb, ltb-true, ne_eqb}
+use Rattle.std.specs.List.{list_all}
 use Rattle.std.specs.Option.{option_map_or, option_or}
 use Rattle.std.proofs.lemmas.List.{map-append}
-use Rattle.std.proofs.lemmas.List.Folds.{list_all-append, list_any-append, find-append}
+use Rattle.std.proofs.lemmas.List.Folds.{list_all-append, find-append}
 use Rattle.std.proofs.lemmas.List.Sums.{sum_by-append}
 use Rattle.mix_model.specs.declared.kind.Kind.{Kind}
 use Rattle.mix_model.specs.declared.settings.Settings.{Settings}
-use Rattle.mix_model.specs.declared.item.Item.{Item}
 use Rattle.mix_model.specs.declared.row.Row.{Row}
 use Rattle.mix_model.specs.Sets.{has, is_distinct, rises_above}
-use Rattle.mix_model.specs.Rows.{is_at, is_scene, is_input, is_group, all_items, new_row, serials_of}
-use Rattle.mix_model.specs.Rows.{has_items}
-use Rattle.mix_model.specs.State.{GraphState, Channel}
-use Rattle.mix_model.specs.Lookups.{row_passes, is_row, registry, named_by, find_row}
-use Rattle.mix_model.specs.Holders.{is_held, shows_some, names, is_on, lists}
+use Rattle.mix_model.specs.Rows.{is_at, is_scene, is_input, new_row, serials_of, has_items}
+use Rattle.mix_model.specs.State.{GraphState}
+use Rattle.mix_model.specs.Lookups.{row_passes, is_row, registry, find_row}
+use Rattle.mix_model.specs.Holders.{is_held, shows_some}
 use Rattle.mix_model.specs.Values.{are_settings, is_sound, is_place, new_sound}
-use Rattle.mix_model.specs.Shape.{are_rows, ids_below, is_child, is_bare}
-use Rattle.mix_model.specs.Shape.{is_side_channel, is_program_channel, is_preview}
-use Rattle.mix_model.proofs.SetLemmas.{and_both, and_first, and_second, or_right}
+use Rattle.mix_model.specs.Shape.{PartsFit, RowsFit, ids_below, is_child, is_bare}
+use Rattle.mix_model.proofs.SetLemmas.{and_both, and_first, and_second, or_right, or_imply}
+use Rattle.mix_model.proofs.SetLemmas.{not_imply, all_imply}
 use Rattle.mix_model.proofs.DyingLemmas.{all_members, member_passes}
 use Rattle.mix_model.proofs.DistinctLemmas.{row_is_listed}
-use Rattle.mix_shape.proofs.SumLemmas.{one_if, times, absent_times, distinct_times, times_distinct}
-use Rattle.mix_shape.proofs.ThinnerLemmas.{all_imply}
-use Rattle.mix_shape.proofs.NameLemmas.{or_imply, and_imply, not_imply}
-use Rattle.mix_shape.proofs.NamedLemmas.{below_absent}
-use Rattle.mix_shape.proofs.LooseShape.{Loose}
+use Rattle.mix_model.proofs.SteadyLemmas.{Sees, item_seen, beside_seen, rows_seen}
+use Rattle.mix_shape.proofs.SumLemmas.{one_if, times, times_cons, absent_times, distinct_times}
+use Rattle.mix_shape.proofs.SumLemmas.{times_distinct}
+use Rattle.mix_shape.proofs.FreshLemmas.{below_next, below_more, fresh_row}
+use Rattle.mix_shape.proofs.NamedLemmas.{passed_some}
+use Rattle.mix_shape.proofs.TestLemmas.{any_last}
 
 -- a number more, where it wasn't
 pub distinct_between : (n : ℕ) (xs ys : List ℕ) → is_distinct (xs ++ ys) ≡ true →
@@ -39,24 +37,26 @@ distinct_between n xs ys once none =
     few : (y : ℕ) (b : Bool) → (n == y) ≡ b → times y ((xs ++ n ∷ []) ++ ys) ≤ 1
     few y b is =
         let t : ℕ → ℕ = λ z. one_if (z == y) in
-        let one : times y (n ∷ []) ≡ one_if b = single b is in
-        let zero : b ≡ true → times y (xs ++ ys) ≡ 0 =
-        λ h. absent_times y (xs ++ ys) (ap (λ z. has z (xs ++ ys)) (sym (eqb-true n y (is ∙ h)))
-        ∙ none) in
-        most b zero (sum_by-append t (xs ++ n ∷ []) ys) (sum_by-append t xs (n ∷ []))
-        (sum_by-append t xs ys) one (distinct_times (xs ++ ys) once y)
+        let one : times y (n ∷ []) ≡ one_if b = times_cons y n [] ∙ most b is in
+        let zero : b ≡ true → times y (xs ++ ys) ≡ 0 = λ h. absent_times y (xs ++ ys)
+        (ap (λ z. has z (xs ++ ys)) (sym (eqb-true n y (is ∙ h))) ∙ none) in
+        at_most b (times y (xs ++ ys)) (times y ((xs ++ n ∷ []) ++ ys)) zero
+        (distinct_times (xs ++ ys) once y)
+        (omega (
+          arith,
+          sum_by-append t (xs ++ n ∷ []) ys,
+          sum_by-append t xs (n ∷ []),
+          sum_by-append t xs ys,
+          one,
+        ))
       where
-        single : (b : Bool) → (n == y) ≡ b → times y (n ∷ []) ≡ one_if b
-        single b is =
-            let same : one_if (n == y) ≡ one_if b = ap one_if is in omega (arith, same)
+        most : (b : Bool) → (n == y) ≡ b → one_if (n == y) + times y [] ≡ one_if b
+        most b is = let same : one_if (n == y) ≡ one_if b = ap one_if is in omega (arith, same)
 
-        most : (b : Bool) → (b ≡ true → times y (xs ++ ys) ≡ 0) →
-            times y ((xs ++ n ∷ []) ++ ys) ≡ times y (xs ++ n ∷ []) + times y ys →
-            times y (xs ++ n ∷ []) ≡ times y xs + times y (n ∷ []) →
-            times y (xs ++ ys) ≡ times y xs + times y ys → times y (n ∷ []) ≡ one_if b →
-            times y (xs ++ ys) ≤ 1 → times y ((xs ++ n ∷ []) ++ ys) ≤ 1
-        most true zero a b c one few = omega (arith, a, b, c, one, few, zero refl)
-        most false zero a b c one few = omega (arith, a, b, c, one, few)
+        at_most : (b : Bool) (old all : ℕ) → (b ≡ true → old ≡ 0) → old ≤ 1 →
+            all ≡ old + one_if b → all ≤ 1
+        at_most true old all zero few is = omega (arith, zero refl, is)
+        at_most false old all zero few is = omega (arith, few, is)
 
 pub rises_more : (m n : ℕ) (xs : List ℕ) → m < n → rises_above m xs ≡ true →
     list_all (λ x. nat_lt x n) xs ≡ true → rises_above m (xs ++ n ∷ []) ≡ true
@@ -66,38 +66,42 @@ rises_more m n (x ∷ xs) low rises below =
     (rises_more x n xs (ltb-true x n (and_first _ _ below)) (and_second _ _ rises)
     (and_second _ _ below))
 
-below_next : (n x : ℕ) → nat_lt x n ≡ true → nat_lt x (n + 1) ≡ true
-below_next n x less = lt-ltb x (n + 1) (omega (arith, ltb-true x n less))
-
 -- a number below another differs from it
 pub below_other : (n x : ℕ) → nat_lt x n ≡ true → (n == x) ≡ false
 below_other n x less =
     let low : x < n = ltb-true x n less in
     ne_eqb n x (λ same. omega (arith, low, same))
 
-module _ (name : List ℕ) (kind : Kind) (settings : Settings) (scenes inputs : List ℕ)
-    (g : GraphState) (loose : Loose g) where
+-- a new row, and the registry with it
+pub record NewRow : Type 0 where
+  pub name : List ℕ
+  pub kind : Kind
+  pub settings : Settings
+  pub scenes : List ℕ
+  pub inputs : List ℕ
+
+module _ (n : NewRow) (g : GraphState) (parts : PartsFit g) where
   abbrev pub new : Row
-  new = new_row g.next_serial name kind settings new_sound
+  new = new_row g.next_serial n.name n.kind n.settings new_sound
 
   abbrev pub grown : GraphState
   grown = record g {
     rows = g.rows ++ new ∷ [];
     next_serial = g.next_serial + 1;
-    scenes = scenes;
-    inputs = inputs;
+    scenes = n.scenes;
+    inputs = n.inputs;
   }
 
   -- what is asked of the new row, and of the registry with it
   pub record GrownFits : Type 0 where
-    pub fits : are_settings kind settings ≡ true
-    pub once : is_distinct (scenes ++ inputs) ≡ true
-    pub more : (y : ℕ) → has y (registry g) ≡ true → has y (scenes ++ inputs) ≡ true
-    pub more_scenes : (y : ℕ) → has y g.scenes ≡ true → has y scenes ≡ true
-    pub less : (y : ℕ) → nat_lt y g.next_serial ≡ true → has y (scenes ++ inputs) ≡ true →
+    pub fits : are_settings n.kind n.settings ≡ true
+    pub once : is_distinct (n.scenes ++ n.inputs) ≡ true
+    pub more : (y : ℕ) → has y (registry g) ≡ true → has y (n.scenes ++ n.inputs) ≡ true
+    pub more_scenes : (y : ℕ) → has y g.scenes ≡ true → has y n.scenes ≡ true
+    pub less : (y : ℕ) → nat_lt y g.next_serial ≡ true → has y (n.scenes ++ n.inputs) ≡ true →
         has y (registry g) ≡ true
-    pub scenes_pass : list_all (row_passes grown (λ r. is_scene r.kind)) scenes ≡ true
-    pub inputs_pass : list_all (row_passes grown (λ r. is_input r.kind)) inputs ≡ true
+    pub scenes_pass : list_all (row_passes grown (λ r. is_scene r.kind)) n.scenes ≡ true
+    pub inputs_pass : list_all (row_passes grown (λ r. is_input r.kind)) n.inputs ≡ true
 
   -- rows are still found
   pub found_more : (y : ℕ) (o : Option Row) → find_row g.rows y ≡ o → is_some o ≡ true →
@@ -105,17 +109,6 @@ module _ (name : List ℕ) (kind : Kind) (settings : Settings) (scenes inputs : 
   found_more y None found there = cc
   found_more y (Some r) found there = find-append (is_at y) g.rows (new ∷ [])
       ∙ ap (λ o. option_or o (find (is_at y) (new ∷ []))) found
-
-  row_more : (y : ℕ) → is_row g y ≡ true → is_row grown y ≡ true
-  row_more y there = ap is_some (found_more y (find_row g.rows y) refl there) ∙ there
-
-  all_more : (xs : List ℕ) → are_rows g xs ≡ true → are_rows grown xs ≡ true
-  all_more xs = all_imply (is_row g) (is_row grown) row_more xs
-
-  passed_some : (test : Kind → Bool) (o : Option Row) →
-      option_map_or (λ r. test r.kind) o false ≡ true → is_some o ≡ true
-  passed_some test None passes = passes
-  passed_some test (Some r) passes = refl
 
   pub pass_more : (test : Kind → Bool) (y : ℕ) → row_passes g (λ r. test r.kind) y ≡ true →
       row_passes grown (λ r. test r.kind) y ≡ true
@@ -134,35 +127,55 @@ module _ (name : List ℕ) (kind : Kind) (settings : Settings) (scenes inputs : 
       ∙ rw (below_other g.next_serial y less) (or_none (find_row g.rows y))
 
   -- and so is the new one
-  absent_row : (o : Option Row) → find_row g.rows g.next_serial ≡ o → o ≡ None
-  absent_row None found = refl
-  absent_row (Some r) found =
-      let there : has g.next_serial (serials_of g.rows) ≡ true =
-      sym (row_is_listed g.rows g.next_serial) ∙ ap is_some found in
-      let gone : has g.next_serial (serials_of g.rows) ≡ false =
-      below_absent g.next_serial (serials_of g.rows) loose.serials_below in
-      let never : true ≡ false = sym there ∙ gone in cc
-
   pub new_found : find_row grown.rows g.next_serial ≡ Some new
   unfolding new_row
   new_found = find-append (is_at g.next_serial) g.rows (new ∷ [])
       ∙ ap (λ o. option_or o (find (is_at g.next_serial) (new ∷ [])))
-      (absent_row (find_row g.rows g.next_serial) refl)
+      (fresh_row g.rows g.next_serial parts.rows.serials_below)
       ∙ ap (λ b. cond b (Some new) None) (eq-eqb g.next_serial g.next_serial refl)
+
+  -- what the registry lists is of its kind, and so is the new one
+  pub old_pass : (test : Kind → Bool) (xs : List ℕ) →
+      list_all (row_passes g (λ r. test r.kind)) xs ≡ true →
+      list_all (row_passes grown (λ r. test r.kind)) xs ≡ true
+  old_pass test = all_imply (row_passes g (λ r. test r.kind)) (row_passes grown (λ r. test r.kind))
+      (pass_more test)
+
+  pub new_passes : (test : Kind → Bool) (xs : List ℕ) →
+      list_all (row_passes g (λ r. test r.kind)) xs ≡ true → test n.kind ≡ true →
+      list_all (row_passes grown (λ r. test r.kind)) (xs ++ g.next_serial ∷ []) ≡ true
+  unfolding new_row
+  new_passes test xs all own =
+      list_all-append (row_passes grown (λ r. test r.kind)) xs (g.next_serial ∷ [])
+      ∙ and_both _ _ (old_pass test xs all)
+      (and_both _ _ (ap (λ o. option_map_or (λ (r : Row). test r.kind) o false) new_found ∙ own)
+      refl)
 
   pub row_below : (y : ℕ) → is_row g y ≡ true → nat_lt y g.next_serial ≡ true
   row_below y there =
       member_passes (λ x. nat_lt x g.next_serial) y (serials_of g.rows)
-      (sym (row_is_listed g.rows y) ∙ there) loose.serials_below
+      (sym (row_is_listed g.rows y) ∙ there) parts.rows.serials_below
+
+  sees_more : Sees g grown.rows n.scenes n.inputs g.dying (g.next_serial + 1)
+  sees_more = record {
+    there = λ y there. ap is_some (found_more y (find_row g.rows y) refl there) ∙ there;
+    pass = pass_more;
+    before = λ y less there. ap is_some (sym (old_found y less)) ∙ there;
+    later = below_next g.next_serial;
+  }
+
+  serials_are : serials_of grown.rows ≡ serials_of g.rows ++ g.next_serial ∷ []
+  unfolding new_row
+  serials_are = map-append (λ (r : Row). r.serial) g.rows (new ∷ [])
+
+  -- what old rows and the new one pass
+  rows_more : (p q : Row → Bool) → ((r : Row) → p r ≡ true → q r ≡ true) → q new ≡ true →
+      list_all p g.rows ≡ true → list_all q grown.rows ≡ true
+  rows_more p q imply own all =
+      list_all-append q g.rows (new ∷ [])
+      ∙ and_both _ _ (all_imply p q imply g.rows all) (and_both _ _ own refl)
 
   module _ (f : GrownFits) where
-    pub child_more : (y : ℕ) → is_child g y ≡ true → is_child grown y ≡ true
-    child_more y = or_imply _ _ _ _ (f.more y) (pass_more is_group y)
-
-    or_false : (b : Bool) → (b || (false || false)) ≡ true → b ≡ true
-    or_false true h = refl
-    or_false false h = cc
-
     -- nothing more holds the other rows
     pub held_old : (y : ℕ) → nat_lt y g.next_serial ≡ true → is_held grown y ≡ true →
         is_held g y ≡ true
@@ -170,126 +183,57 @@ module _ (name : List ℕ) (kind : Kind) (settings : Settings) (scenes inputs : 
     held_old y less =
         or_imply _ _ _ _ (f.less y less) (or_imply _ _ _ _ (λ a. a)
         (or_imply _ _ _ _
-        (λ shown. or_false (list_any (shows_some y) g.rows)
-        (sym (list_any-append (shows_some y) g.rows (new ∷ [])) ∙ shown)) (λ d. d)))
+        (any_last (shows_some y) g.rows new _ (λ shown. shown) (λ none. cc)) (λ d. d)))
 
-    preview_more : (o : Option ℕ) → is_preview g o ≡ true → is_preview grown o ≡ true
-    preview_more None ok = refl
-    preview_more (Some y) ok =
-        let less : nat_lt y g.next_serial ≡ true = and_first _ _ ok in
-        and_both _ _ (below_next g.next_serial y less)
-        (ap (λ o. not (is_some o) || option_map_or (λ (r : Row). is_scene r.kind) o false)
-        (old_found y less) ∙ and_second _ _ ok)
-
-    side_more : (c : Channel) → is_side_channel g c ≡ true → is_side_channel grown c ≡ true
-    side_more c = and_imply _ _ _ _
-        (all_imply (is_child g) (is_child grown) child_more (named_by c)) (λ d. d)
-
-    program_more : (c : Channel) → is_program_channel g c ≡ true →
-        is_program_channel grown c ≡ true
-    program_more c =
-        and_imply (list_all (λ x. has x g.scenes) (named_by c) && is_distinct (named_by c))
-        (is_some c.0 || not (is_some c.1))
-        (list_all (λ x. has x scenes) (named_by c) && is_distinct (named_by c))
-        (is_some c.0 || not (is_some c.1))
-        (and_imply (list_all (λ x. has x g.scenes) (named_by c)) (is_distinct (named_by c))
-        (list_all (λ x. has x scenes) (named_by c)) (is_distinct (named_by c))
-        (all_imply (λ x. has x g.scenes) (λ x. has x scenes) f.more_scenes (named_by c))
-        (λ d. d)) (λ d. d)
-
-    item_more : (i : Item) → (is_row g i.child && is_child g i.child) ≡ true →
-        (is_row grown i.child && is_child grown i.child) ≡ true
-    item_more i = and_imply _ _ _ _ (row_more i.child) (child_more i.child)
-
-    serials_are : serials_of grown.rows ≡ serials_of g.rows ++ g.next_serial ∷ []
-    unfolding new_row
-    serials_are = map-append (λ (r : Row). r.serial) g.rows (new ∷ [])
-
-    -- what old rows and the new one pass
-    rows_more : (p q : Row → Bool) → ((r : Row) → p r ≡ true → q r ≡ true) → q new ≡ true →
-        list_all p g.rows ≡ true → list_all q grown.rows ≡ true
-    rows_more p q imply own all =
-        list_all-append q g.rows (new ∷ [])
-        ∙ and_both _ _ (all_imply p q imply g.rows all) (and_both _ _ own refl)
-
-    new_bare : is_bare new ≡ true
-    unfolding new_row
-    new_bare = or_right (has_items kind) true refl
-
-    new_ids : ids_below new.next_item (map (λ i. i.id) new.items) ≡ true
-    unfolding new_row
-    new_ids = refl
-
-    new_children : list_all (λ i. is_row grown i.child && is_child grown i.child) new.items ≡ true
-    unfolding new_row
-    new_children = refl
-
-    new_places : list_all (λ i. is_place i.place) new.items ≡ true
-    unfolding new_row
-    new_places = refl
-
-    new_fits : (are_settings new.kind new.settings && is_sound new.sound) ≡ true
+    grown_rows : RowsFit grown
     unfolding new_row new_sound is_sound
-    new_fits = and_both (are_settings kind settings) true f.fits refl
+    grown_rows =
+        let old : RowsFit g = parts.rows in
+        let ids : Row → Bool = λ r. ids_below r.next_item (map (λ i. i.id) r.items) in
+        let values : Row → Bool = λ r. are_settings r.kind r.settings && is_sound r.sound in
+        record {
+          serials_rise = ap (rises_above 0) serials_are
+              ∙ rises_more 0 g.next_serial (serials_of g.rows) (ltb-true 0 g.next_serial
+              old.serials_start) old.serials_rise old.serials_below;
+          serials_start = below_next g.next_serial 0 old.serials_start;
+          serials_below = ap (list_all (λ x. nat_lt x (g.next_serial + 1))) serials_are
+              ∙ below_more (serials_of g.rows) g.next_serial old.serials_below;
+          item_ids = rows_more ids ids (λ r ok. ok) refl old.item_ids;
+          children_rows = rows_more
+              (λ r. list_all (λ i. is_row g i.child && is_child g i.child) r.items)
+              (λ r. list_all (λ i. is_row grown i.child && is_child grown i.child) r.items)
+              (λ r. all_imply (λ i. is_row g i.child && is_child g i.child)
+              (λ i. is_row grown i.child && is_child grown i.child)
+              (item_seen g grown.rows n.scenes n.inputs g.dying (g.next_serial + 1) sees_more f.more)
+              r.items) refl old.children_rows;
+          inputs_bare = rows_more is_bare is_bare (λ r ok. ok)
+              (or_right (has_items n.kind) true refl) old.inputs_bare;
+          settings_fit = rows_more values values (λ r ok. ok)
+              (and_both (are_settings n.kind n.settings) true f.fits refl) old.settings_fit;
+          places_fit = rows_more (λ r. list_all (λ i. is_place i.place) r.items)
+              (λ r. list_all (λ i. is_place i.place) r.items) (λ r ok. ok) refl old.places_fit;
+        }
 
     dying_old : list_all (λ x. not (is_held grown x)) g.dying ≡ true
     dying_old = all_members (λ x. not (is_held grown x)) g.dying (λ x dies.
         not_imply (is_held g x) (is_held grown x)
-        (held_old x (row_below x (member_passes (is_row g) x g.dying dies loose.dying_rows)))
-        (member_passes (λ y. not (is_held g y)) x g.dying dies loose.dying_unheld))
+        (held_old x (row_below x (member_passes (is_row g) x g.dying dies parts.dying.dying_rows)))
+        (member_passes (λ y. not (is_held g y)) x g.dying dies parts.dying.none_held))
 
-    pub grown_loose : Loose grown
-    grown_loose = record {
-      serials_rise = ap (rises_above 0) serials_are
-          ∙ rises_more 0 g.next_serial (serials_of g.rows) (ltb-true 0 g.next_serial
-          loose.serials_start) loose.serials_rise loose.serials_below;
-      serials_start = below_next g.next_serial 0 loose.serials_start;
-      serials_below = ap (list_all (λ x. nat_lt x (g.next_serial + 1))) serials_are
-          ∙ list_all-append (λ x. nat_lt x (g.next_serial + 1)) (serials_of g.rows)
-          (g.next_serial ∷ [])
-          ∙ and_both _ _ (all_imply (λ x. nat_lt x g.next_serial)
-          (λ x. nat_lt x (g.next_serial + 1)) (below_next g.next_serial) (serials_of g.rows)
-          loose.serials_below)
-          (and_both _ _ (lt-ltb g.next_serial (g.next_serial + 1) (omega arith)) refl);
-      item_ids = rows_more (λ r. ids_below r.next_item (map (λ i. i.id) r.items))
-          (λ r. ids_below r.next_item (map (λ i. i.id) r.items)) (λ r ids. ids) new_ids
-          loose.item_ids;
-      hold_ids = loose.hold_ids;
-      watch_ids = loose.watch_ids;
-      frame_numbers = loose.frame_numbers;
-      holds_rows = all_more (map (λ h. h.serial) g.holds) loose.holds_rows;
-      frames_rows = all_imply (λ f. are_rows g f.serials) (λ f. are_rows grown f.serials)
-          (λ f. all_more f.serials) g.frames loose.frames_rows;
-      frames_once = loose.frames_once;
-      watched_before = all_imply (λ w. nat_lt w.serial g.next_serial)
-          (λ w. nat_lt w.serial (g.next_serial + 1)) (λ w. below_next g.next_serial w.serial)
-          g.watches loose.watched_before;
-      scenes_scenes = f.scenes_pass;
-      inputs_inputs = f.inputs_pass;
-      registry_once = f.once;
-      children_rows = rows_more
-          (λ r. list_all (λ i. is_row g i.child && is_child g i.child) r.items)
-          (λ r. list_all (λ i. is_row grown i.child && is_child grown i.child) r.items)
-          (λ r. all_imply (λ i. is_row g i.child && is_child g i.child)
-          (λ i. is_row grown i.child && is_child grown i.child) item_more r.items)
-          new_children loose.children_rows;
-      inputs_bare = rows_more is_bare is_bare (λ r bare. bare) new_bare loose.inputs_bare;
-      channel_count = loose.channel_count;
-      program_channel = all_imply (is_program_channel g) (is_program_channel grown) program_more
-          (take 1 g.channels) loose.program_channel;
-      side_channels = all_imply (is_side_channel g) (is_side_channel grown) side_more
-          (drop 1 g.channels) loose.side_channels;
-      preview_scene = preview_more g.preview loose.preview_scene;
-      dying_rows = all_more g.dying loose.dying_rows;
-      dying_unheld = dying_old;
-      dying_once = loose.dying_once;
-      settings_fit = rows_more (λ r. are_settings r.kind r.settings && is_sound r.sound)
-          (λ r. are_settings r.kind r.settings && is_sound r.sound) (λ r fits. fits) new_fits
-          loose.settings_fit;
-      places_fit = rows_more (λ r. list_all (λ i. is_place i.place) r.items)
-          (λ r. list_all (λ i. is_place i.place) r.items) (λ r fits. fits) new_places
-          loose.places_fit;
-      few_frames = loose.few_frames;
-      few_holds = loose.few_holds;
-      few_watches = loose.few_watches;
+    pub grown_parts : PartsFit grown
+    grown_parts = record {
+      rows = grown_rows;
+      registry = record {
+        scenes_scenes = f.scenes_pass;
+        inputs_inputs = f.inputs_pass;
+        registry_once = f.once;
+      };
+      beside = beside_seen g grown.rows n.scenes n.inputs g.dying (g.next_serial + 1) sees_more f.more
+          f.more_scenes parts.beside;
+      dying = record {
+        dying_rows = rows_seen g grown.rows n.scenes n.inputs g.dying (g.next_serial + 1) sees_more
+            g.dying parts.dying.dying_rows;
+        none_held = dying_old;
+        dying_once = parts.dying.dying_once;
+      };
     }

@@ -1,6 +1,8 @@
+-- what all of a list pass, what some do, and what a part of it does
+pub mod TestLemmas
 -- sums over lists, and what they tell
 pub mod SumLemmas
--- names that are taken, and serials that were not given yet
+-- names that are taken, and numbers that were not given yet
 pub mod FreshLemmas
 -- rows with fewer items, or with items in another order
 pub mod ThinnerLemmas
@@ -24,7 +26,7 @@ pub mod SetShape
 pub mod RemovedShape
 -- what is beside rows and registry
 pub mod BesideShape
--- named rows, causes that did not come, and ids one more or some fewer
+-- named rows, causes that did not come and what is left without them, ids one more or some fewer
 pub mod NamedLemmas
 -- holds, watches, frames, the preview and the clock keep it
 pub mod HoldShape
@@ -36,8 +38,6 @@ pub mod ChannelShape
 pub mod DestroyLemmas
 -- to destroy a row keeps it
 pub mod DestroyedShape
--- what new sources and items keep, but for names and limits
-pub mod LooseShape
 -- a new item keeps it
 pub mod AddedShape
 -- a new row keeps it, but for names and limits

@@ -1,9 +1,9 @@
 -- A new source lets no row die: something holds it, and what was held stays so.
-use Rattle.std.proofs.Common.{◌≡◌, ℕ, ◌+◌, ◌==◌, Bool, true, false, cond, not, ◌&&◌, ◌||◌, List, []}
-use Rattle.std.proofs.Common.{◌∷◌, ◌++◌, map, filter, find, Option, Some, None, refl, ap, sym, ◌∙◌}
-use Rattle.std.proofs.Common.{is_some, eq-eqb}
+use Rattle.std.proofs.Common.{◌≡◌, ℕ, ◌+◌, Bool, true, false, cond, not, ◌&&◌, ◌||◌, List, []}
+use Rattle.std.proofs.Common.{◌∷◌, ◌++◌, filter, Some, None, refl, ap, ◌∙◌}
+use Rattle.std.proofs.Common.{eq-eqb}
 use Rattle.std.specs.List.{list_any}
-use Rattle.std.proofs.lemmas.Bool.{or_left, or_right}
+use Rattle.std.proofs.lemmas.Bool.{or_left, or_right, true_from_ne_false, both_ways}
 use Rattle.std.proofs.lemmas.List.{map-append}
 use Rattle.std.proofs.lemmas.List.Elements.{filter-append}
 use Rattle.std.proofs.lemmas.List.Folds.{list_any-append}
@@ -23,13 +23,14 @@ use Rattle.mix_model.specs.Settle.{newly_dying}
 use Rattle.mix_model.specs.Edits.{scene_created, group_created, input_created, shown_input_created}
 use Rattle.mix_model.specs.Edits.{item_added}
 use Rattle.mix_model.specs.Shape.{GraphShape}
-use Rattle.mix_model.proofs.SetLemmas.{and_both}
+use Rattle.mix_model.proofs.SetLemmas.{and_both, or_imply}
+use Rattle.mix_model.proofs.DistinctLemmas.{row_is_listed}
+use Rattle.mix_model.proofs.SteadyLemmas.{steady_serials}
 use Rattle.mix_model.proofs.AddLemmas.{added_held}
 use Rattle.mix_shape.specs.Created.{Wanted, input_made}
-use Rattle.mix_shape.proofs.FreshLemmas.{has_append}
-use Rattle.mix_shape.proofs.NameLemmas.{or_imply, held_in_registry}
+use Rattle.mix_shape.proofs.NameLemmas.{held_in_registry}
+use Rattle.mix_shape.proofs.ListedLemmas.{scene_more, scene_there, input_more, input_there}
 use Rattle.mix_shape.proofs.UnchangedLemmas.{none_die}
-use Rattle.mix_shape.proofs.LooseShape.{steady_serials}
 use Rattle.mix_shape.proofs.AddedShape.{at_parent, steady_parent}
 
 neither : (xs ys : List ℕ) → xs ≡ [] → ys ≡ [] → xs ++ ys ≡ []
@@ -93,37 +94,14 @@ module _ (g : GraphState) (row : Row) (scenes inputs : List ℕ) where
           (λ x held. added_held bigger parent g.next_serial spec x
           ∙ or_left _ _ (held_more x held))
 
--- the registry with a scene or an input more
-scene_more : (n y : ℕ) (scenes inputs : List ℕ) → has y (scenes ++ inputs) ≡ true →
-    has y ((scenes ++ n ∷ []) ++ inputs) ≡ true
-scene_more n y scenes inputs here = has_append y (scenes ++ n ∷ []) inputs
-    ∙ or_imply _ _ _ _ (λ s. has_append y scenes (n ∷ []) ∙ or_left _ _ s) (λ i. i)
-    (sym (has_append y scenes inputs) ∙ here)
-
-scene_there : (n : ℕ) (scenes inputs : List ℕ) → has n ((scenes ++ n ∷ []) ++ inputs) ≡ true
-scene_there n scenes inputs = has_append n (scenes ++ n ∷ []) inputs
-    ∙ or_left _ _ (has_append n scenes (n ∷ []) ∙ or_right _ _ (or_left _ _ (eq-eqb n n refl)))
-
-input_more : (n y : ℕ) (scenes inputs : List ℕ) → has y (scenes ++ inputs) ≡ true →
-    has y (scenes ++ (inputs ++ n ∷ [])) ≡ true
-input_more n y scenes inputs here = has_append y scenes (inputs ++ n ∷ [])
-    ∙ or_imply _ _ _ _ (λ s. s) (λ i. has_append y inputs (n ∷ []) ∙ or_left _ _ i)
-    (sym (has_append y scenes inputs) ∙ here)
-
-input_there : (n : ℕ) (scenes inputs : List ℕ) → has n (scenes ++ (inputs ++ n ∷ [])) ≡ true
-input_there n scenes inputs = has_append n scenes (inputs ++ n ∷ [])
-    ∙ or_right _ _ (has_append n inputs (n ∷ []) ∙ or_right _ _ (or_left _ _ (eq-eqb n n refl)))
+serials_any : (x : ℕ) (rows : List Row) → has x (serials_of rows) ≡ list_any (is_at x) rows
+serials_any x [] = refl
+serials_any x (r ∷ rows) = ap (λ b. is_at x r || b) (serials_any x rows)
 
 -- a row that is there is among the rows
 row_among : (x : ℕ) (rows : List Row) → has_row rows x ≡ true → list_any (is_at x) rows ≡ true
-row_among x [] there = cc
-row_among x (r ∷ rows) there = here (row_among x rows) (is_at x r) there
-  where
-    here : (has_row rows x ≡ true → list_any (is_at x) rows ≡ true) → (b : Bool) →
-        is_some (cond b (Some r) (find (is_at x) rows)) ≡ true →
-        (b || list_any (is_at x) rows) ≡ true
-    here rest true h = refl
-    here rest false h = rest h
+row_among x rows there = true_from_ne_false _ (λ none. both_ways _
+    (row_is_listed rows x ∙ serials_any x rows ∙ none) there)
 
 pub scene_lets_live : (name : List ℕ) (g : GraphState) → GraphShape g →
     newly_dying (scene_created name g) ≡ []

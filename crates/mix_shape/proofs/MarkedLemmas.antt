@@ -87,4 +87,4 @@ pub marks_rise : (marks : List Mark) (clock : ℕ) → BegunAs marks clock →
     rises_above 0 (map (λ m. m.serial) marks) ≡ true
 marks_rise marks clock begun =
     ap (λ ms. rises_above 0 (map (λ (m : Mark). m.serial) ms)) begun.marks_are
-    ∙ ap (rises_above 0) (marked_serials begun.old begun.old.rows) ∙ begun.shape.serials_rise
+    ∙ ap (rises_above 0) (marked_serials begun.old begun.old.rows) ∙ begun.shape.parts.rows.serials_rise

@@ -1,27 +1,31 @@
--- Named rows, causes that did not come, and ids one more or some fewer.
-use Rattle.std.proofs.Common.{◌≡◌, ℕ, ◌+◌, ◌<◌, ◌==◌, Bool, true, false, cond, not, ◌&&◌, ◌||◌}
+-- Named rows, causes that did not come and what is left without them, and ids one more or some fewer.
+use Rattle.std.proofs.Common.{◌≡◌, ℕ, ◌+◌, ◌==◌, Bool, true, false, cond, not, ◌&&◌}
 use Rattle.std.proofs.Common.{List, [], ◌∷◌, ◌++◌, map, filter, length, Option, Some, None, refl}
-use Rattle.std.proofs.Common.{ap, sym, ◌∙◌, arith, nat_le, nat_lt, le-leb, leb-true, lt-ltb}
-use Rattle.std.proofs.Common.{ltb-true, eqb-true, is_some, subst}
-use Rattle.std.specs.List.{list_all, list_any}
+use Rattle.std.proofs.Common.{ap, sym, ◌∙◌, arith, nat_le, nat_lt, le-leb, leb-true}
+use Rattle.std.proofs.Common.{eqb-true, is_some, subst}
+use Rattle.std.specs.List.{list_all}
 use Rattle.std.specs.Option.{option_map_or}
-use Rattle.std.proofs.lemmas.List.Folds.{list_all-append, list_all-map}
+use Rattle.std.proofs.lemmas.Bool.{not-false, ltb-false}
+use Rattle.std.proofs.lemmas.List.Folds.{list_all-map}
 use Rattle.std.proofs.lemmas.List.Filters.{length-filter_both, sum_by-filter_both}
 use Rattle.mix_model.specs.declared.fault.GraphFault.{GraphFault}
+use Rattle.mix_model.specs.declared.kind.Kind.{Kind}
 use Rattle.mix_model.specs.declared.row.Row.{Row}
 use Rattle.mix_model.specs.Sets.{has, is_distinct}
 use Rattle.mix_model.specs.Rows.{is_at, is_group}
 use Rattle.mix_model.specs.State.{GraphState}
 use Rattle.mix_model.specs.Lookups.{is_row, row_of, row_passes, registry}
 use Rattle.mix_model.specs.Holders.{is_held, is_named_row, is_named, named_row_or_none}
-use Rattle.mix_model.specs.Shape.{ids_below, is_child}
-use Rattle.mix_model.proofs.SetLemmas.{and_both, and_first, and_second, found_test, or_right}
-use Rattle.mix_model.proofs.DyingLemmas.{member_passes}
-use Rattle.mix_model.proofs.DistinctLemmas.{distinct_append}
+use Rattle.mix_model.specs.Ranks.{ranks_within, weights_within}
+use Rattle.mix_model.specs.Causes.{item_count, late_cause, cause_or}
+use Rattle.mix_model.specs.Shape.{PartsFit, ids_below, is_child, names_differ}
+use Rattle.mix_model.specs.EditedShape.{EditedShape}
+use Rattle.mix_model.proofs.SetLemmas.{and_both, and_first, and_second, found_test, or_imply}
+use Rattle.mix_model.proofs.DistinctLemmas.{all_filter}
+use Rattle.mix_model.proofs.FallLemmas.{shallow_falls}
 use Rattle.mix_shape.proofs.SumLemmas.{one_if, sum_map, distinct_times, times_distinct}
-use Rattle.mix_shape.proofs.ThinnerLemmas.{all_imply}
-use Rattle.mix_shape.proofs.NameLemmas.{named_held, or_imply}
-use Rattle.mix_shape.proofs.RemovedShape.{all_kept}
+use Rattle.mix_shape.proofs.NameLemmas.{named_held}
+use Rattle.mix_shape.proofs.FreshLemmas.{differ_more, below_more}
 
 -- a named row is held, a row, and may be shown
 pub record Named (g : GraphState) (x : ℕ) : Type 0 where
@@ -51,6 +55,12 @@ named_is_held g x named =
 pub named_is_row : (g : GraphState) (x : ℕ) → is_named g x ≡ true → is_row g x ≡ true
 named_is_row g x named = ap is_some (named_row g x named).found
 
+-- what passes a test of its kind is a row
+pub passed_some : (test : Kind → Bool) (o : Option Row) →
+    option_map_or (λ r. test r.kind) o false ≡ true → is_some o ≡ true
+passed_some test None passes = passes
+passed_some test (Some r) passes = refl
+
 -- a named row that passes a test of its kind
 kind_of_named : (g : GraphState) (x : ℕ) (n : Named g x) →
     row_passes g (λ r. is_group r.kind) x ≡ is_group n.row.kind
@@ -71,33 +81,12 @@ pub no_cause : (b : Bool) (fault : GraphFault) (rest : Option GraphFault) →
 no_cause true fault rest h = cc
 no_cause false fault rest h = (refl, h)
 
--- a number that all are below isn't among them
-pub below_absent : (next : ℕ) (ids : List ℕ) → list_all (λ id. nat_lt id next) ids ≡ true →
-    has next ids ≡ false
-below_absent next ids below = absent (has next ids) refl
-  where
-    absent : (b : Bool) → has next ids ≡ b → b ≡ false
-    absent false is = refl
-    absent true is =
-        let less : next < next = ltb-true next next
-        (member_passes (λ id. nat_lt id next) next ids is below) in
-        absurd (omega (arith, less))
-
 -- one id more, the next one
 pub ids_more : (next : ℕ) (ids : List ℕ) → ids_below next ids ≡ true →
     ids_below (next + 1) (ids ++ next ∷ []) ≡ true
 ids_more next ids old =
-    let once : is_distinct (ids ++ next ∷ []) ≡ true =
-    distinct_append ids (next ∷ []) (and_first _ _ old) refl
-    (and_both _ _ (ap not (below_absent next ids (and_second _ _ old))) refl) in
-    let below : list_all (λ id. nat_lt id (next + 1)) (ids ++ next ∷ []) ≡ true =
-    list_all-append (λ id. nat_lt id (next + 1)) ids (next ∷ [])
-    ∙ and_both _ _
-    (all_imply (λ id. nat_lt id next) (λ id. nat_lt id (next + 1))
-    (λ id less. lt-ltb id (next + 1) (omega (arith, ltb-true id next less))) ids
-    (and_second _ _ old))
-    (and_both _ _ (lt-ltb next (next + 1) (omega arith)) refl) in
-    and_both _ _ once below
+    and_both _ _ (differ_more ids next (and_first _ _ old) (and_second _ _ old))
+    (below_more ids next (and_second _ _ old))
 
 pub times_fewer : {X : Type 0} (id : X → ℕ) (p : X → Bool) (xs : List X) →
     is_distinct (map id xs) ≡ true → is_distinct (map id (filter p xs)) ≡ true
@@ -118,7 +107,7 @@ ids_fewer {X} id p next xs old =
     let once : is_distinct (map id (filter p xs)) ≡ true = times_fewer id p xs (and_first _ _ old) in
     let below : list_all (λ n. nat_lt n next) (map id (filter p xs)) ≡ true =
     list_all-map (λ n. nat_lt n next) id (filter p xs)
-    ∙ all_kept (λ (x : X). nat_lt (id x) next) p xs
+    ∙ all_filter (λ (x : X). nat_lt (id x) next) p xs
     (sym (list_all-map (λ n. nat_lt n next) id xs) ∙ and_second _ _ old) in
     and_both _ _ once below
 
@@ -132,14 +121,30 @@ filter_length {X} p most xs few =
       length-filter_both p (λ (x : X). not (p x)) (λ x. refl) xs,
     ))
 
--- what some of a part pass, some of all pass
-pub any_kept : {X : Type 0} (t p : X → Bool) (xs : List X) → list_any t (filter p xs) ≡ true →
-    list_any t xs ≡ true
-any_kept t p [] h = h
-any_kept {X} t p (x ∷ xs) h = here (any_kept t p xs) (p x) h
-  where
-    here : (list_any t (filter p xs) ≡ true → list_any t xs ≡ true) → (b : Bool) →
-        list_any t (cond b (x ∷ filter p xs) (filter p xs)) ≡ true →
-        (t x || list_any t xs) ≡ true
-    here rest true h = or_imply _ _ _ _ (λ a. a) rest h
-    here rest false h = or_right _ _ (rest h)
+-- where a call that creates isn't refused, neither early nor late causes came
+pub no_early : (early late : Option GraphFault) → cause_or early late ≡ None →
+    (early ≡ None) × (late ≡ None)
+no_early None late none = (refl, none)
+no_early (Some fault) late none = cc
+
+-- names that differ, and no late cause, are all that is left to ask of what an edit makes
+pub tight : (g : GraphState) → PartsFit g → names_differ (filter (is_named_row g) g.rows) ≡ true →
+    late_cause g ≡ None → EditedShape g
+unfolding late_cause
+tight g parts differ none =
+    let deep = no_cause (not (ranks_within 16 g)) _ _ none in
+    let rows = no_cause (nat_lt 512 (length g.rows)) _ _ deep.1 in
+    let items = no_cause (nat_lt 2048 (item_count g.rows)) _ _ rows.1 in
+    let heavy = no_cause (not (weights_within 4096 g)) _ _ items.1 in
+    let shallow : ranks_within 16 g ≡ true = not-false (ranks_within 16 g) deep.0 in
+    record {
+      parts = parts;
+      limits = record {
+        few_rows = le-leb (length g.rows) 512 (ltb-false 512 (length g.rows) rows.0);
+        few_items = le-leb (item_count g.rows) 2048 (ltb-false 2048 (item_count g.rows) items.0);
+        light = not-false (weights_within 4096 g) heavy.0;
+        shallow = shallow;
+        falling = shallow_falls g parts.rows.serials_rise parts.rows.inputs_bare shallow;
+      };
+      names = differ;
+    }

@@ -23,7 +23,7 @@ some_case test (Some r) passed = (r, refl)
 
 module _ (g : GraphState) (shape : GraphShape g) (x : ℕ) (here : has x g.scenes ≡ true) where
   pub scene_passes : option_map_or (λ r. is_scene r.kind) (row_of g x) false ≡ true
-  scene_passes = member_passes _ x g.scenes here shape.scenes_scenes
+  scene_passes = member_passes _ x g.scenes here shape.parts.registry.scenes_scenes
 
   -- it is a row
   pub scene_row : (r : Row) × (row_of g x ≡ Some r)

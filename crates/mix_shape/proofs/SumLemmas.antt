@@ -1,48 +1,39 @@
 -- Sums over lists, and what they tell: that all pass a test, that no number is twice.
-use Rattle.std.proofs.Common.{◌≡◌, ℕ, suc, ◌+◌, ◌≤◌, ◌==◌, Bool, true, false, not, ◌||◌}
-use Rattle.std.proofs.Common.{List, [], ◌∷◌, ◌++◌, map, length, refl, ap, sym, ◌∙◌, arith}
-use Rattle.std.proofs.Common.{eqb-true, eq-eqb, nat_le, le-leb, leb-true, max}
-use Rattle.std.specs.List.{list_all, list_any, sum_by}
+use Rattle.std.proofs.Common.{◌≡◌, ℕ, zero, suc, ◌+◌, ◌≤◌, ◌==◌, Bool, true, false, not, List, [], ◌∷◌, map}
+use Rattle.std.proofs.Common.{length, refl, ap, sym, ◌∙◌, arith, eqb-true, eq-eqb, nat_le, le-leb}
+use Rattle.std.proofs.Common.{leb-true, filter}
+use Rattle.std.specs.List.{list_all, sum_by}
+use Rattle.std.proofs.lemmas.Bool.{not-true, or_parts, or_from, both_ways}
 use Rattle.std.proofs.lemmas.List.Sums.{sum_by-cons}
-use Rattle.std.proofs.lemmas.List.Folds.{fold-map}
+use Rattle.std.proofs.lemmas.List.Folds.{fold-map, sum_by-zero}
+use Rattle.std.proofs.lemmas.List.Filters.{sum_by-filter_both}
 use Rattle.mix_model.specs.Sets.{has, is_distinct, greatest}
 use Rattle.mix_model.specs.Ranks.{sum_of}
-use Rattle.mix_model.proofs.SetLemmas.{and_both, and_first, and_second}
-use Rattle.std.proofs.lemmas.Bool.{not-true}
+use Rattle.mix_model.proofs.SetLemmas.{and_both, and_first, and_second, all_imply}
 
 -- 1 where a test is passed
 abbrev pub one_if : Bool → ℕ
 one_if true = 1
 one_if false = 0
 
-none_if : (b : Bool) → b ≡ true → one_if (not b) ≡ 0
+none_if : (b : Bool) → b ≡ true → (one_if (not b) == 0) ≡ true
 none_if true h = refl
 none_if false h = cc
 
-if_none : (b : Bool) → one_if (not b) ≡ 0 → b ≡ true
+if_none : (b : Bool) → (one_if (not b) == 0) ≡ true → b ≡ true
 if_none true h = refl
-if_none false h = absurd (omega (arith, h))
+if_none false h = cc
 
 -- all pass a test exactly where the sum of those that fail is 0
 pub all_sum : {X : Type 0} (p : X → Bool) (xs : List X) → list_all p xs ≡ true →
     sum_by (λ x. one_if (not (p x))) xs ≡ 0
-all_sum p [] all = refl
-all_sum {X} p (x ∷ xs) all =
-    let first : one_if (not (p x)) ≡ 0 = none_if (p x) (and_first _ _ all) in
-    let whole : sum_by (λ (y : X). one_if (not (p y))) (x ∷ xs)
-    ≡ one_if (not (p x)) + sum_by (λ (y : X). one_if (not (p y))) xs =
-    sum_by-cons (λ (y : X). one_if (not (p y))) x xs in
-    omega (arith, first, whole, all_sum p xs (and_second _ _ all))
+all_sum {X} p xs all = eqb-true _ 0 (sum_by-zero (λ (x : X). one_if (not (p x))) xs
+    ∙ all_imply p (λ x. one_if (not (p x)) == 0) (λ x. none_if (p x)) xs all)
 
 pub sum_all : {X : Type 0} (p : X → Bool) (xs : List X) → sum_by (λ x. one_if (not (p x))) xs ≡ 0 →
     list_all p xs ≡ true
-sum_all p [] none = refl
-sum_all {X} p (x ∷ xs) none =
-    let whole : sum_by (λ (y : X). one_if (not (p y))) (x ∷ xs)
-    ≡ one_if (not (p x)) + sum_by (λ (y : X). one_if (not (p y))) xs =
-    sum_by-cons (λ (y : X). one_if (not (p y))) x xs in
-    and_both _ _ (if_none (p x) (omega (arith, whole, none)))
-    (sum_all p xs (omega (arith, whole, none)))
+sum_all {X} p xs none = all_imply (λ x. one_if (not (p x)) == 0) p (λ x. if_none (p x)) xs
+    (sym (sum_by-zero (λ (x : X). one_if (not (p x))) xs) ∙ eq-eqb _ 0 none)
 
 -- a sum over changed elements
 pub sum_map : {X Y : Type 0} (f : Y → ℕ) (h : X → Y) (xs : List X) →
@@ -54,28 +45,22 @@ pub sum_less : {X : Type 0} (f k : X → ℕ) → ((x : X) → f x ≤ k x) → 
     sum_by f xs ≤ sum_by k xs
 sum_less f k less [] = omega arith
 sum_less f k less (x ∷ xs) =
-    omega (
-      arith,
-      sum_by-cons f x xs,
-      sum_by-cons k x xs,
-      less x,
-      sum_less f k less xs,
-    )
+    omega (arith, sum_by-cons f x xs, sum_by-cons k x xs, less x, sum_less f k less xs)
+
+-- a part of a list has no greater sum
+pub sum_part : {X : Type 0} (f : X → ℕ) (p : X → Bool) (xs : List X) →
+    sum_by f (filter p xs) ≤ sum_by f xs
+sum_part {X} f p xs = omega (arith, sum_by-filter_both p (λ (x : X). not (p x)) (λ x. refl) f xs)
 
 pub length_sum : {X : Type 0} (xs : List X) → sum_by (λ x. 1) xs ≡ length xs
 length_sum [] = refl
-length_sum {X} (x ∷ xs) =
-    let whole : sum_by (λ (y : X). 1) (x ∷ xs) ≡ 1 + sum_by (λ (y : X). 1) xs =
-    sum_by-cons (λ (y : X). 1) x xs in
-    omega (arith, whole, length_sum xs)
+length_sum {X} (x ∷ xs) = omega (arith, sum_by-cons (λ (y : X). 1) x xs, length_sum xs)
 
 pub sum_of_is : {X : Type 0} (f : ℕ → ℕ) (c : X → ℕ) (xs : List X) →
     sum_of (map f (map c xs)) ≡ sum_by (λ x. f (c x)) xs
 sum_of_is f c [] = refl
 sum_of_is {X} f c (x ∷ xs) =
-    let whole : sum_by (λ (y : X). f (c y)) (x ∷ xs) ≡ f (c x) + sum_by (λ (y : X). f (c y)) xs =
-    sum_by-cons (λ (y : X). f (c y)) x xs in
-    omega (arith, whole, sum_of_is f c xs)
+    omega (arith, sum_by-cons (λ (y : X). f (c y)) x xs, sum_of_is f c xs)
 
 -- the greatest is at most a number where each is
 pub greatest_all : {X : Type 0} (k : X → ℕ) (m : ℕ) (xs : List X) → greatest (map k xs) ≤ m →
@@ -99,27 +84,33 @@ times x xs = sum_by (λ y. one_if (y == x)) xs
 pub times_cons : (x y : ℕ) (xs : List ℕ) → times x (y ∷ xs) ≡ one_if (y == x) + times x xs
 times_cons x y xs = sum_by-cons (λ z. one_if (z == x)) y xs
 
-none_case : (b : Bool) (rest : Bool) → (b || rest) ≡ false → (one_if b ≡ 0) × (rest ≡ false)
-none_case true rest h = cc
-none_case false rest h = (refl, h)
+none_one : (b : Bool) → b ≡ false → one_if b ≡ 0
+none_one true h = cc
+none_one false h = refl
+
+one_none : (b : Bool) → one_if b ≡ 0 → b ≡ false
+one_none true h = absurd (omega (arith, h))
+one_none false h = refl
 
 pub absent_times : (x : ℕ) (xs : List ℕ) → has x xs ≡ false → times x xs ≡ 0
 absent_times x [] none = refl
 absent_times x (y ∷ xs) none =
-    let parts = none_case (y == x) (has x xs) none in
-    omega (arith, times_cons x y xs, parts.0, absent_times x xs parts.1)
-
-some_case : (b : Bool) (n : ℕ) (rest : Bool) → one_if b + n ≡ 0 → rest ≡ false →
-    (b || rest) ≡ false
-some_case true n rest h none = absurd (omega (arith, h))
-some_case false n rest h none = none
+    let both = or_parts (y == x) (has x xs) none in
+    omega (arith, times_cons x y xs, none_one (y == x) both.0, absent_times x xs both.1)
 
 pub times_absent : (x : ℕ) (xs : List ℕ) → times x xs ≡ 0 → has x xs ≡ false
 times_absent x [] none = refl
 times_absent x (y ∷ xs) none =
     let whole : one_if (y == x) + times x xs ≡ 0 = sym (times_cons x y xs) ∙ none in
-    some_case (y == x) (times x xs) (has x xs) whole
+    or_from _ _ (one_none (y == x) (omega (arith, whole)))
     (times_absent x xs (omega (arith, whole)))
+
+pub times_present : (x : ℕ) (xs : List ℕ) → has x xs ≡ true → 1 ≤ times x xs
+times_present x xs here = case_times (times x xs) refl
+  where
+    case_times : (n : ℕ) → times x xs ≡ n → 1 ≤ n
+    case_times zero none = absurd (both_ways _ (times_absent x xs none) here)
+    case_times (suc n) some = omega arith
 
 at_most_one : (b : Bool) (n : ℕ) → (b ≡ true → n ≡ 0) → n ≤ 1 → one_if b + n ≤ 1
 at_most_one true n none few = omega (arith, none refl)

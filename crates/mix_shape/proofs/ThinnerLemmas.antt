@@ -1,34 +1,33 @@
 -- Rows that lose items, or whose items change places: what held of all items holds of those that are
 -- left, and no row gets deeper or heavier.
-use Rattle.std.proofs.Common.{◌≡◌, ℕ, zero, suc, ◌≤◌, ◌==◌, Bool, true, false, cond, not, ◌&&◌, ◌||◌}
-use Rattle.std.proofs.Common.{List, [], ◌∷◌, map, length, Option, Some, None, refl, ap, sym, ◌∙◌}
+use Rattle.std.proofs.Common.{◌≡◌, ℕ, zero, suc, ◌≤◌, ◌==◌, Bool, true, false, cond, not, ◌||◌}
+use Rattle.std.proofs.Common.{List, [], ◌∷◌, map, length, Option, Some, None, refl, sym, ◌∙◌}
 use Rattle.std.proofs.Common.{arith, nat_lt, nat_le, le-leb, leb-true, eqb-true, eq-eqb}
-use Rattle.std.proofs.Common.{option_map, option_and_then, is_some}
-use Rattle.std.specs.List.{list_all, list_any, sum_by}
-use Rattle.std.specs.Option.{option_map_or}
+use Rattle.std.proofs.Common.{option_map, option_and_then}
+use Rattle.std.specs.List.{list_all, sum_by}
+use Rattle.std.proofs.lemmas.Bool.{true_from_ne_false, both_ways}
 use Rattle.std.proofs.lemmas.List.Folds.{list_all-map}
-use Rattle.mix_model.specs.declared.kind.Kind.{Kind}
 use Rattle.mix_model.specs.declared.item.Item.{Item}
 use Rattle.mix_model.specs.declared.row.Row.{Row}
 use Rattle.mix_model.specs.Sets.{is_distinct, greatest}
-use Rattle.mix_model.specs.Rows.{is_at, has_items, children_of, serials_of, shows, all_items}
-use Rattle.mix_model.specs.Lookups.{find_row, has_row}
+use Rattle.mix_model.specs.Rows.{is_at, has_items, children_of, shows}
+use Rattle.mix_model.specs.Lookups.{find_row}
 use Rattle.mix_model.specs.Holders.{shows_some}
 use Rattle.mix_model.specs.Ranks.{inside_of, inside_in, rank_by, rank_over, rank_in, sum_of}
-use Rattle.mix_model.specs.Ranks.{weight_by, weight_over, weight_in, shallow_in, light_in}
+use Rattle.mix_model.specs.Ranks.{weight_by, weight_over, weight_in}
 use Rattle.mix_model.specs.Causes.{item_count}
 use Rattle.mix_model.specs.Shape.{ids_below, is_bare}
 use Rattle.mix_model.proofs.SetLemmas.{and_both, and_first, and_second}
-use Rattle.mix_model.proofs.SettleLemmas.{find_changed, unseen_option, some_changed}
+use Rattle.mix_model.proofs.SteadyLemmas.{Steady, steady_at, steady_found, at_same}
+use Rattle.mix_shape.proofs.TestLemmas.{none_all, all_none}
 use Rattle.mix_shape.proofs.SumLemmas.{all_sum, sum_all, sum_map, sum_less, length_sum, sum_of_is}
 use Rattle.mix_shape.proofs.SumLemmas.{one_if, greatest_all, all_greatest, distinct_times}
 use Rattle.mix_shape.proofs.SumLemmas.{times_distinct}
 
 -- what such a change does to a row: no sum over its items grows, and the rest stays
 pub record Thinner (h : Row → Row) : Type 0 where
-  pub serial : (r : Row) → (h r).serial ≡ r.serial
+  pub steady : Steady h
   pub name : (r : Row) → (h r).name ≡ r.name
-  pub kind : (r : Row) → (h r).kind ≡ r.kind
   pub settings : (r : Row) → (h r).settings ≡ r.settings
   pub sound : (r : Row) → (h r).sound ≡ r.sound
   pub next : (r : Row) → (h r).next_item ≡ r.next_item
@@ -38,92 +37,33 @@ pub record Thinner (h : Row → Row) : Type 0 where
 pub thinner_at : (x : ℕ) (change : Row → Row) → Thinner change →
     Thinner (λ r. cond (is_at x r) (change r) r)
 thinner_at x change t = record {
-  serial = λ r. at_serial r (is_at x r);
-  name = λ r. at_name r (is_at x r);
-  kind = λ r. at_kind r (is_at x r);
-  settings = λ r. at_settings r (is_at x r);
-  sound = λ r. at_sound r (is_at x r);
-  next = λ r. at_next r (is_at x r);
+  steady = steady_at x change t.steady;
+  name = λ r. at_same (λ (s : Row). s.name) (is_at x r) (change r) r (t.name r);
+  settings = λ r. at_same (λ (s : Row). s.settings) (is_at x r) (change r) r (t.settings r);
+  sound = λ r. at_same (λ (s : Row). s.sound) (is_at x r) (change r) r (t.sound r);
+  next = λ r. at_same (λ (s : Row). s.next_item) (is_at x r) (change r) r (t.next r);
   less = λ f r. at_less f r (is_at x r);
 } where
-  at_serial : (r : Row) (here : Bool) → (cond here (change r) r).serial ≡ r.serial
-  at_serial r true = t.serial r
-  at_serial r false = refl
-
-  at_name : (r : Row) (here : Bool) → (cond here (change r) r).name ≡ r.name
-  at_name r true = t.name r
-  at_name r false = refl
-
-  at_kind : (r : Row) (here : Bool) → (cond here (change r) r).kind ≡ r.kind
-  at_kind r true = t.kind r
-  at_kind r false = refl
-
-  at_settings : (r : Row) (here : Bool) → (cond here (change r) r).settings ≡ r.settings
-  at_settings r true = t.settings r
-  at_settings r false = refl
-
-  at_sound : (r : Row) (here : Bool) → (cond here (change r) r).sound ≡ r.sound
-  at_sound r true = t.sound r
-  at_sound r false = refl
-
-  at_next : (r : Row) (here : Bool) → (cond here (change r) r).next_item ≡ r.next_item
-  at_next r true = t.next r
-  at_next r false = refl
-
   at_less : (f : Item → ℕ) (r : Row) (here : Bool) →
       sum_by f (cond here (change r) r).items ≤ sum_by f r.items
   at_less f r true = t.less f r
   at_less f r false = omega arith
-
--- what holds of each element that passed a test holds of all where all passed it
-pub all_imply : {X : Type 0} (p q : X → Bool) → ((x : X) → p x ≡ true → q x ≡ true) →
-    (xs : List X) → list_all p xs ≡ true → list_all q xs ≡ true
-all_imply p q imply [] all = refl
-all_imply p q imply (x ∷ xs) all =
-    and_both _ _ (imply x (and_first _ _ all)) (all_imply p q imply xs (and_second _ _ all))
-
--- no element passes where all fail
-pub none_all : {X : Type 0} (p : X → Bool) (xs : List X) → list_any p xs ≡ false →
-    list_all (λ x. not (p x)) xs ≡ true
-none_all p [] none = refl
-none_all p (x ∷ xs) none = both (p x) (list_any p xs) none (none_all p xs)
-  where
-    both : (b rest : Bool) → (b || rest) ≡ false →
-        (rest ≡ false → list_all (λ y. not (p y)) xs ≡ true) →
-        (not b && list_all (λ y. not (p y)) xs) ≡ true
-    both true rest h more = cc
-    both false rest h more = more h
-
-pub all_none : {X : Type 0} (p : X → Bool) (xs : List X) → list_all (λ x. not (p x)) xs ≡ true →
-    list_any p xs ≡ false
-all_none p [] all = refl
-all_none p (x ∷ xs) all =
-    neither (p x) (list_any p xs) (and_first _ _ all) (all_none p xs (and_second _ _ all))
-  where
-    neither : (b rest : Bool) → not b ≡ true → rest ≡ false → (b || rest) ≡ false
-    neither true rest h none = cc
-    neither false rest h none = none
 
 -- lighter: whatever its children's ranks and weights are, if they are no greater then its own aren't
 abbrev pub Lighter : Option (List ℕ) → Option (List ℕ) → Type 0
 Lighter o p = (f k : ℕ → ℕ) → ((c : ℕ) → f c ≤ k c) →
     (rank_over f o ≤ rank_over k p) × (weight_over f o ≤ weight_over k p)
 
-pub rank_lighter : (inner other : ℕ → Option (List ℕ)) →
+pub all_lighter : (inner other : ℕ → Option (List ℕ)) →
     ((x : ℕ) → Lighter (inner x) (other x)) → (n x : ℕ) →
-    rank_by inner n x ≤ rank_by other n x
-rank_lighter inner other light zero x = omega arith
-rank_lighter inner other light (suc n) x =
-    (light x (λ c. rank_by inner n c) (λ c. rank_by other n c)
-    (rank_lighter inner other light n)).0
-
-pub weight_lighter : (inner other : ℕ → Option (List ℕ)) →
-    ((x : ℕ) → Lighter (inner x) (other x)) → (n x : ℕ) →
-    weight_by inner n x ≤ weight_by other n x
-weight_lighter inner other light zero x = omega arith
-weight_lighter inner other light (suc n) x =
-    (light x (λ c. weight_by inner n c) (λ c. weight_by other n c)
-    (weight_lighter inner other light n)).1
+    (rank_by inner n x ≤ rank_by other n x) × (weight_by inner n x ≤ weight_by other n x)
+all_lighter inner other light zero x = (omega arith, omega arith)
+all_lighter inner other light (suc n) x = (
+  (light x (λ c. rank_by inner n c) (λ c. rank_by other n c)
+      (λ c. (all_lighter inner other light n c).0)).0,
+  (light x (λ c. weight_by inner n c) (λ c. weight_by other n c)
+      (λ c. (all_lighter inner other light n c).1)).1,
+)
 
 -- a row without items weighs least
 pub none_lighter : (o : Option (List ℕ)) → Lighter None o
@@ -151,7 +91,7 @@ shallow_lighter most rows after light r low =
     le-leb (rank_in after r.serial) most (omega (
       arith,
       leb-true (rank_in rows r.serial) most low,
-      rank_lighter (inside_in after) (inside_in rows) light 17 r.serial,
+      (all_lighter (inside_in after) (inside_in rows) light 17 r.serial).0,
     ))
 
 pub light_lighter : (most : ℕ) (rows after : List Row) →
@@ -161,7 +101,7 @@ light_lighter most rows after light r low =
     le-leb (weight_in after r.serial) most (omega (
       arith,
       leb-true (weight_in rows r.serial) most low,
-      weight_lighter (inside_in after) (inside_in rows) light 17 r.serial,
+      (all_lighter (inside_in after) (inside_in rows) light 17 r.serial).1,
     ))
 
 module _ (h : Row → Row) (t : Thinner h) where
@@ -194,14 +134,9 @@ module _ (h : Row → Row) (t : Thinner h) where
 
   -- it shows nothing new
   pub shows_less : (x : ℕ) (r : Row) → shows_some x (h r) ≡ true → shows_some x r ≡ true
-  shows_less x r shown = shown_case (list_any (shows x) r.items) refl
-    where
-      shown_case : (b : Bool) → list_any (shows x) r.items ≡ b → b ≡ true
-      shown_case true is = refl
-      shown_case false is =
-          let none : list_any (shows x) (h r).items ≡ false = all_none (shows x) (h r).items
-          (part (λ i. not (shows x i)) r (none_all (shows x) r.items is)) in
-          sym none ∙ shown
+  shows_less x r shown = true_from_ne_false _ (λ none. both_ways _
+      (all_none (shows x) (h r).items
+      (part (λ i. not (shows x i)) r (none_all (shows x) r.items none))) shown)
 
   -- it has no more items
   pub fewer : (r : Row) → length (h r).items ≤ length r.items
@@ -217,7 +152,7 @@ module _ (h : Row → Row) (t : Thinner h) where
       )
 
   pub bare_kept : (r : Row) → is_bare r ≡ true → is_bare (h r) ≡ true
-  bare_kept r bare = rw (t.kind r) (bare_case (has_items r.kind) bare)
+  bare_kept r bare = rw (t.steady.kind r) (bare_case (has_items r.kind) bare)
     where
       bare_case : (b : Bool) → (b || (length r.items == 0)) ≡ true →
           (b || (length (h r).items == 0)) ≡ true
@@ -228,7 +163,7 @@ module _ (h : Row → Row) (t : Thinner h) where
   -- no row gets deeper or heavier
   lighter_row : (r : Row) → Lighter (inside_of (h r)) (inside_of r)
   lighter_row r f k low =
-      rw (t.kind r) (row_case (has_items r.kind))
+      rw (t.steady.kind r) (row_case (has_items r.kind))
     where
       deep : greatest (map f (children_of (h r))) ≤ greatest (map k (children_of r))
       deep =
@@ -259,10 +194,6 @@ module _ (h : Row → Row) (t : Thinner h) where
       row_case true = (omega (arith, deep), omega (arith, heavy))
       row_case false = (omega arith, omega arith)
 
-  pub found_changed : (rows : List Row) (x : ℕ) →
-      find_row (map h rows) x ≡ option_map h (find_row rows x)
-  found_changed rows x = find_changed (is_at x) h (λ r. ap (λ s. s == x) (t.serial r)) rows
-
   lighter_found : (o : Option Row) →
       Lighter (option_and_then inside_of (option_map h o)) (option_and_then inside_of o)
   lighter_found None = none_lighter None
@@ -270,25 +201,4 @@ module _ (h : Row → Row) (t : Thinner h) where
 
   pub lighter_rows : (rows : List Row) (x : ℕ) →
       Lighter (inside_in (map h rows) x) (inside_in rows x)
-  lighter_rows rows x = rw (found_changed rows x) (lighter_found (find_row rows x))
-
-  pub rows_there : (rows : List Row) (x : ℕ) → has_row (map h rows) x ≡ has_row rows x
-  rows_there rows x = ap is_some (found_changed rows x) ∙ some_changed h (find_row rows x)
-
-  pub rows_pass : (test : Kind → Bool) (rows : List Row) (x : ℕ) →
-      option_map_or (λ r. test r.kind) (find_row (map h rows) x) false
-      ≡ option_map_or (λ r. test r.kind) (find_row rows x) false
-  rows_pass test rows x =
-      ap (λ o. option_map_or (λ r. test r.kind) o false) (found_changed rows x)
-      ∙ unseen_option (λ r. test r.kind) false h (λ r. ap test (t.kind r)) (find_row rows x)
-
-  pub serials_same : (rows : List Row) → serials_of (map h rows) ≡ serials_of rows
-  serials_same [] = refl
-  serials_same (r ∷ rows) = rw (t.serial r, serials_same rows)
-
-  -- what holds of each row, changed, holds of all
-  pub all_changed : (p q : Row → Bool) → ((r : Row) → p r ≡ true → q (h r) ≡ true) →
-      (rows : List Row) → list_all p rows ≡ true → list_all q (map h rows) ≡ true
-  all_changed p q imply [] all = refl
-  all_changed p q imply (r ∷ rows) all =
-      and_both _ _ (imply r (and_first _ _ all)) (all_changed p q imply rows (and_second _ _ all))
+  lighter_rows rows x = rw (steady_found h t.steady rows x) (lighter_found (find_row rows x))

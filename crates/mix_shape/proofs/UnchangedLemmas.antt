@@ -5,7 +5,7 @@ use Rattle.std.proofs.Common.{◌++◌, map, filter, find, Some, refl, sym, ap, 
 use Rattle.std.proofs.Common.{eq-eqb, eqb-true, append-nil}
 use Rattle.std.specs.Option.{option_map_or}
 use Rattle.std.specs.List.{list_all, list_any}
-use Rattle.std.proofs.lemmas.Bool.{ltb-true}
+use Rattle.std.proofs.lemmas.Bool.{ltb-true, ne_eqb}
 use Rattle.std.proofs.lemmas.List.Folds.{list_any-append}
 use Rattle.mix_model.specs.declared.row.Row.{Row}
 use Rattle.mix_model.specs.Sets.{has, agree, rises_above}
@@ -17,7 +17,7 @@ use Rattle.mix_model.specs.Walks.{is_active, active_rows}
 use Rattle.mix_model.specs.Settle.{settle, with_since, since_before, newly_dying}
 use Rattle.mix_model.specs.Edits.{clock_set, frame_held}
 use Rattle.mix_model.specs.Shape.{GraphShape}
-use Rattle.mix_model.proofs.SetLemmas.{and_first, and_second, or_left}
+use Rattle.mix_model.proofs.SetLemmas.{and_first, and_second, or_left, or_imply}
 
 -- rows whose serials rise are found by their serials
 sinces_stand : (f : ℕ → ℕ) (m : ℕ) (rows : List Row) → rises_above m (serials_of rows) ≡ true →
@@ -33,12 +33,7 @@ sinces_stand f m (r ∷ rows) rise same =
     ∙ ap (λ rs. r ∷ rs) (sinces_stand f r.serial rows (and_second _ _ rise) (λ x later.
     same x (omega (arith, above, later))
     ∙ ap (λ b. option_map_or (λ (s : Row). s.since) (cond b (Some r) (find (is_at x) rows)) 0)
-    (differs r.serial x (r.serial == x) refl later)))
-  where
-    differs : (a x : ℕ) (b : Bool) → (a == x) ≡ b → a < x → b ≡ false
-    differs a x true is later = let same : a ≡ x = eqb-true a x is in
-        absurd (omega (arith, same, later))
-    differs a x false is later = refl
+    (ne_eqb r.serial x (λ same. omega (arith, same, later)))))
 
 -- a row that was active stays so, and none becomes it
 since_same : (a : Bool) (c d : ℕ) → cond (a && not a) c d ≡ d
@@ -83,7 +78,7 @@ settles_still g h shape rows dying active held =
     (ap (λ b. cond (b && not (is_active g r.serial)) h.clock (since_before g r.serial))
     (active r.serial)
     ∙ since_same (is_active g r.serial) h.clock (since_before g r.serial))) g.rows
-    ∙ sinces_stand (since_before g) 0 g.rows shape.serials_rise (λ x above. refl)
+    ∙ sinces_stand (since_before g) 0 g.rows shape.parts.rows.serials_rise (λ x above. refl)
     ∙ sym rows in
     let none : newly_dying h ≡ [] =
     ap (λ rs. filter (λ x. not (is_held h x) && not (has x h.dying)) (serials_of rs)) rows
@@ -93,62 +88,31 @@ settles_still g h shape rows dying active held =
     ∙ ap (λ ds. with_parts h h.rows (h.dying ++ ds)) none
     ∙ ap (with_parts h h.rows) (append-nil h.dying)
 
-held_more : (a b c d e f : Bool) → (e ≡ true → f ≡ true) →
-    (a || (b || (c || (d || e)))) ≡ true → (a || (b || (c || (d || f)))) ≡ true
-held_more true b c d e f more h = refl
-held_more false true c d e f more h = refl
-held_more false false true d e f more h = refl
-held_more false false false true e f more h = refl
-held_more false false false false e f more h = more h
-
 frame_holds_more : (n : ℕ) (g : GraphState) (x : ℕ) → is_held g x ≡ true →
     is_held (frame_held n g) x ≡ true
 unfolding frame_held is_held
-frame_holds_more n g x h =
+frame_holds_more n g x =
     let new : Frame = record { number = n; serials = active_rows g } in
-    held_more (has x (registry g)) (list_any (names x) g.channels)
-    (list_any (shows_some x) g.rows) (list_any (is_on x) g.holds) (list_any (lists x) g.frames)
-    (list_any (lists x) (g.frames ++ new ∷ []))
+    or_imply (has x (registry g)) _ (has x (registry g)) _ (λ a. a)
+    (or_imply (list_any (names x) g.channels) _ (list_any (names x) g.channels) _ (λ b. b)
+    (or_imply (list_any (shows_some x) g.rows) _ (list_any (shows_some x) g.rows) _ (λ c. c)
+    (or_imply (list_any (is_on x) g.holds) (list_any (lists x) g.frames)
+    (list_any (is_on x) g.holds) (list_any (lists x) (g.frames ++ new ∷ [])) (λ d. d)
     (λ listed. list_any-append (lists x) g.frames (new ∷ [])
-    ∙ or_left (list_any (lists x) g.frames) (list_any (lists x) (new ∷ [])) listed) h
+    ∙ or_left (list_any (lists x) g.frames) _ listed))))
 
 pub frame_active : (n : ℕ) (g : GraphState) (x : ℕ) → is_active (frame_held n g) x ≡ is_active g x
 unfolding frame_held is_active
 frame_active n g x = refl
 
-clock_active : (c : ℕ) (g : GraphState) (x : ℕ) → is_active (clock_set c g) x ≡ is_active g x
-unfolding clock_set is_active
-clock_active c g x = refl
-
-clock_holds : (c : ℕ) (g : GraphState) (x : ℕ) → is_held (clock_set c g) x ≡ is_held g x
-unfolding clock_set is_held
-clock_holds c g x = refl
-
-frame_rows : (n : ℕ) (g : GraphState) → (frame_held n g).rows ≡ g.rows
-unfolding frame_held
-frame_rows n g = refl
-
-frame_dying : (n : ℕ) (g : GraphState) → (frame_held n g).dying ≡ g.dying
-unfolding frame_held
-frame_dying n g = refl
-
-clock_rows : (c : ℕ) (g : GraphState) → (clock_set c g).rows ≡ g.rows
-unfolding clock_set
-clock_rows c g = refl
-
-clock_dying : (c : ℕ) (g : GraphState) → (clock_set c g).dying ≡ g.dying
-unfolding clock_set
-clock_dying c g = refl
-
 -- a frame that is held is settled, and so it is under a later clock
 pub held_still : (n : ℕ) (g : GraphState) → GraphShape g → settle g (frame_held n g) ≡ frame_held n g
-held_still n g shape = settles_still g (frame_held n g) shape (frame_rows n g) (frame_dying n g)
-    (frame_active n g) (frame_holds_more n g)
+unfolding frame_held
+held_still n g shape =
+    settles_still g (frame_held n g) shape refl refl (frame_active n g) (frame_holds_more n g)
 
 pub taken_still : (n c : ℕ) (g : GraphState) → GraphShape g →
     settle g (clock_set c (frame_held n g)) ≡ clock_set c (frame_held n g)
-taken_still n c g shape = settles_still g (clock_set c (frame_held n g)) shape
-    (clock_rows c (frame_held n g) ∙ frame_rows n g)
-    (clock_dying c (frame_held n g) ∙ frame_dying n g)
-    (λ x. clock_active c (frame_held n g) x ∙ frame_active n g x)
-    (λ x h. clock_holds c (frame_held n g) x ∙ frame_holds_more n g x h)
+unfolding frame_held clock_set is_active is_held
+taken_still n c g shape = settles_still g (clock_set c (frame_held n g)) shape refl refl
+    (frame_active n g) (frame_holds_more n g)

@@ -44,41 +44,42 @@ begun_later marks clock later begun rises = record {
 pub empty_shape : GraphShape empty_graph
 unfolding every_rule empty_graph
 empty_shape = record {
-  serials_rise = refl;
-  serials_start = refl;
-  serials_below = refl;
-  item_ids = refl;
-  hold_ids = refl;
-  watch_ids = refl;
-  frame_numbers = refl;
-  holds_rows = refl;
-  frames_rows = refl;
-  frames_once = refl;
-  watched_before = refl;
-  scenes_scenes = refl;
-  inputs_inputs = refl;
-  registry_once = refl;
-  children_rows = refl;
-  falling = refl;
-  inputs_bare = refl;
-  channel_count = refl;
-  program_channel = refl;
-  side_channels = refl;
-  preview_scene = refl;
+  parts = record {
+    rows = record {
+      serials_rise = refl;
+      serials_start = refl;
+      serials_below = refl;
+      item_ids = refl;
+      children_rows = refl;
+      inputs_bare = refl;
+      settings_fit = refl;
+      places_fit = refl;
+    };
+    registry = record { scenes_scenes = refl; inputs_inputs = refl; registry_once = refl };
+    beside = record {
+      holds = record { hold_ids = refl; holds_rows = refl; few_holds = refl };
+      watches = record { watch_ids = refl; watched_before = refl; few_watches = refl };
+      frames = record {
+        frame_numbers = refl;
+        frames_rows = refl;
+        frames_once = refl;
+        few_frames = refl;
+      };
+      channels = record { channel_count = refl; program_channel = refl; side_channels = refl };
+      preview_scene = refl;
+    };
+    dying = record { dying_rows = refl; none_held = refl; dying_once = refl };
+  };
+  limits = record {
+    few_rows = refl;
+    few_items = refl;
+    light = refl;
+    shallow = refl;
+    falling = refl;
+  };
   names = refl;
-  dying_rows = refl;
   dying_unheld = refl;
-  dying_once = refl;
   since_past = refl;
-  settings_fit = refl;
-  places_fit = refl;
-  few_rows = refl;
-  few_items = refl;
-  light = refl;
-  shallow = refl;
-  few_frames = refl;
-  few_holds = refl;
-  few_watches = refl;
 }
 
 pub empty_begun : BegunAs [] 0

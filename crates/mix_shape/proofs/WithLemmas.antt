@@ -1,8 +1,8 @@
 -- What a new item makes of ranks, weights and numbers: so it is refused by the rows as they are.
-use Rattle.std.proofs.Common.{◌≡◌, ℕ, zero, suc, ◌+◌, ◌≤◌, ◌<◌, ◌==◌, Bool, true, false, cond, not}
-use Rattle.std.proofs.Common.{◌&&◌, ◌||◌, List, [], ◌∷◌, ◌++◌, map, length, find, Option, Some, None}
-use Rattle.std.proofs.Common.{refl, ap, sym, ◌∙◌, arith, nat_le, nat_lt, option_map, eqb-true, max}
-use Rattle.std.proofs.Common.{option_and_then, is_some, eq-eqb, ne_eqb, ltb-true, le-leb}
+use Rattle.std.proofs.Common.{◌≡◌, ℕ, suc, ◌+◌, ◌≤◌, ◌<◌, ◌==◌, Bool, true, false, cond, not}
+use Rattle.std.proofs.Common.{◌&&◌, List, [], ◌∷◌, ◌++◌, map, length, Option, Some, None}
+use Rattle.std.proofs.Common.{refl, ap, sym, ◌∙◌, arith, nat_le, nat_lt, option_map}
+use Rattle.std.proofs.Common.{option_and_then}
 use Rattle.std.specs.List.{list_all, sum_by}
 use Rattle.std.specs.Option.{option_or}
 use Rattle.std.proofs.lemmas.Bool.Decides.{nat_tests}
@@ -19,12 +19,13 @@ use Rattle.mix_model.specs.Edits.{item_added}
 use Rattle.mix_model.proofs.SetLemmas.{and_both}
 use Rattle.mix_model.proofs.DyingLemmas.{member_passes}
 use Rattle.mix_shape.specs.Created.{shown_added}
-use Rattle.mix_shape.proofs.NamedLemmas.{below_absent}
+use Rattle.mix_shape.proofs.FreshLemmas.{fresh_row}
+use Rattle.mix_shape.proofs.NamedLemmas.{no_cause}
 use Rattle.mix_shape.proofs.GrownShape.{below_other}
 use Rattle.mix_model.specs.declared.item.Item.{Item}
 use Rattle.mix_model.specs.declared.item.ItemSpec.{ItemSpec}
 use Rattle.mix_model.specs.declared.row.Row.{Row}
-use Rattle.mix_model.specs.Sets.{greatest, has, is_distinct}
+use Rattle.mix_model.specs.Sets.{greatest, is_distinct}
 use Rattle.mix_model.specs.Rows.{is_at, has_items, children_of, serials_of}
 use Rattle.mix_model.specs.Items.{with_item, new_item}
 use Rattle.mix_model.specs.Lookups.{find_row, has_row}
@@ -33,49 +34,15 @@ use Rattle.mix_model.specs.Ranks.{weight_by, weight_over, weight_in, rank, weigh
 use Rattle.mix_model.specs.Ranks.{ranks_within, weights_within}
 use Rattle.mix_model.specs.State.{GraphState}
 use Rattle.mix_model.specs.Causes.{item_count, late_cause, first_cause}
+use Rattle.mix_model.proofs.AlikeLemmas.{Alike, rank_alike, weight_alike, inside_any}
+use Rattle.mix_model.proofs.SteadyLemmas.{Steady, steady_found}
 use Rattle.mix_model.proofs.BlindLemmas.{all_congr}
 use Rattle.mix_model.proofs.DistinctLemmas.{row_is_listed}
 use Rattle.mix_shape.specs.declared.new_item.NewItem.{NewItem}
-use Rattle.mix_shape.specs.NewItems.{inside_with, inside_or_new, inside_new, children_with}
+use Rattle.mix_shape.specs.NewItems.{inside_with, inside_or_new, inside_new}
 use Rattle.mix_shape.specs.NewItems.{rank_with, weight_with, late_cause_with}
-use Rattle.mix_shape.proofs.SumLemmas.{one_if, times, times_absent, distinct_times, sum_map}
-use Rattle.mix_shape.proofs.LooseShape.{Steady, steady_found}
+use Rattle.mix_shape.proofs.SumLemmas.{one_if, times, times_present, distinct_times, sum_map}
 use Rattle.mix_shape.proofs.AddedShape.{at_parent, steady_parent}
-
--- alike: whatever its children's ranks and weights are, its own are the same
-abbrev pub Alike : Option (List ℕ) → Option (List ℕ) → Type 0
-Alike o p = (f : ℕ → ℕ) → (rank_over f o ≡ rank_over f p) × (weight_over f o ≡ weight_over f p)
-
-map_same : (f k : ℕ → ℕ) → ((x : ℕ) → f x ≡ k x) → (xs : List ℕ) → map f xs ≡ map k xs
-map_same f k same [] = refl
-map_same f k same (x ∷ xs) = rw (same x, map_same f k same xs)
-
-rank_over_same : (f k : ℕ → ℕ) → ((x : ℕ) → f x ≡ k x) → (o : Option (List ℕ)) →
-    rank_over f o ≡ rank_over k o
-rank_over_same f k same None = refl
-rank_over_same f k same (Some xs) = ap (λ ys. suc (greatest ys)) (map_same f k same xs)
-
-weight_over_same : (f k : ℕ → ℕ) → ((x : ℕ) → f x ≡ k x) → (o : Option (List ℕ)) →
-    weight_over f o ≡ weight_over k o
-weight_over_same f k same None = refl
-weight_over_same f k same (Some xs) = ap (λ ys. suc (sum_of ys)) (map_same f k same xs)
-
-pub rank_alike : (inner other : ℕ → Option (List ℕ)) → ((x : ℕ) → Alike (inner x) (other x)) →
-    (n x : ℕ) → rank_by inner n x ≡ rank_by other n x
-rank_alike inner other alike zero x = refl
-rank_alike inner other alike (suc n) x =
-    (alike x (λ c. rank_by inner n c)).0
-    ∙ rank_over_same (λ c. rank_by inner n c) (λ c. rank_by other n c)
-    (rank_alike inner other alike n) (other x)
-
-pub weight_alike : (inner other : ℕ → Option (List ℕ)) →
-    ((x : ℕ) → Alike (inner x) (other x)) → (n x : ℕ) →
-    weight_by inner n x ≡ weight_by other n x
-weight_alike inner other alike zero x = refl
-weight_alike inner other alike (suc n) x =
-    (alike x (λ c. weight_by inner n c)).1
-    ∙ weight_over_same (λ c. weight_by inner n c) (λ c. weight_by other n c)
-    (weight_alike inner other alike n) (other x)
 
 -- a child at the end, or before all others
 greatest_end : (f : ℕ → ℕ) (xs : List ℕ) (c : ℕ) →
@@ -161,11 +128,13 @@ module _ (new : NewItem) (spec : ItemSpec) (rows extra : List Row) where
 
     rank_same : (x : ℕ) → rank_in all x ≡ rank_with new rows x
     unfolding rank_with
-    rank_same x = rank_alike (inside_in all) (inside_with new rows) inside_alike 17 x
+    rank_same x = rank_alike (λ y. true) (inside_in all) (inside_with new rows)
+        (λ y here. inside_alike y) (λ y here. inside_any (inside_with new rows y)) 17 x refl
 
     weight_same : (x : ℕ) → weight_in all x ≡ weight_with new rows x
     unfolding weight_with
-    weight_same x = weight_alike (inside_in all) (inside_with new rows) inside_alike 17 x
+    weight_same x = weight_alike (λ y. true) (inside_in all) (inside_with new rows)
+        (λ y here. inside_alike y) (λ y here. inside_any (inside_with new rows y)) 17 x refl
 
     ranks_same : list_all (λ r. nat_le (rank_in all r.serial) 16) all
         ≡ list_all (λ r. nat_le (rank_with new rows r.serial) 16) rows
@@ -214,7 +183,7 @@ module _ (new : NewItem) (spec : ItemSpec) (rows extra : List Row) where
         let few : times new.parent (serials_of rows) ≤ 1 =
         distinct_times (serials_of rows) differ new.parent in
         let some : 1 ≤ times new.parent (serials_of rows) =
-        present (times new.parent (serials_of rows)) refl in
+        times_present new.parent (serials_of rows) (sym (row_is_listed rows new.parent) ∙ there) in
         omega (
           arith,
           few,
@@ -225,13 +194,6 @@ module _ (new : NewItem) (spec : ItemSpec) (rows extra : List Row) where
           sum_map (λ y. one_if (y == new.parent)) (λ (r : Row). r.serial) rows,
           e.items,
         )
-      where
-        present : (n : ℕ) → times new.parent (serials_of rows) ≡ n → 1 ≤ n
-        present zero none =
-            let gone : has new.parent (serials_of rows) ≡ false =
-            times_absent new.parent (serials_of rows) none in
-            let never : true ≡ false = sym there ∙ row_is_listed rows new.parent ∙ gone in cc
-        present (suc n) some = omega arith
 
     late_same : (g : GraphState) → g.rows ≡ all → is_distinct (serials_of rows) ≡ true →
         has_row rows new.parent ≡ true → (count : ℕ) → length (rows ++ extra) ≡ count →
@@ -248,12 +210,7 @@ module _ (new : NewItem) (spec : ItemSpec) (rows extra : List Row) where
         let long : length g.rows ≡ count = ap length same ∙ length-map (rows ++ extra) h ∙ is in
         let many : item_count g.rows ≡ item_count rows + 1 =
         ap item_count same ∙ items_more differ there in
-        let over : nat_lt 2048 (item_count g.rows) ≡ nat_lt 2047 (item_count rows) =
-        ap (nat_lt 2048) many ∙ shift (item_count rows) in
-        rw (deep, heavy, long, over) refl
-      where
-        shift : (n : ℕ) → nat_lt 2048 (n + 1) ≡ nat_lt 2047 n
-        shift n = grind (arith, nat_tests)
+        rw (deep, heavy, long, many) refl
 
 -- an item between rows
 module _ (parent child : ℕ) (spec : ItemSpec) (g : GraphState) where
@@ -285,11 +242,11 @@ module _ (parent child : ℕ) (spec : ItemSpec) (g : GraphState) where
       ap (λ rs. item_count (map (at_parent parent child spec) rs)) (sym (append-nil g.rows))
       ∙ items_more added_item spec g.rows [] no_row differ there
 
-rank_low : (f : ℕ → ℕ) (b : Bool) → nat_le (rank_over f (cond b (Some []) None)) 16 ≡ true
+pub rank_low : (f : ℕ → ℕ) (b : Bool) → nat_le (rank_over f (cond b (Some []) None)) 16 ≡ true
 rank_low f true = refl
 rank_low f false = refl
 
-weight_low : (f : ℕ → ℕ) (b : Bool) → nat_le (weight_over f (cond b (Some []) None)) 4096 ≡ true
+pub weight_low : (f : ℕ → ℕ) (b : Bool) → nat_le (weight_over f (cond b (Some []) None)) 4096 ≡ true
 weight_low f true = refl
 weight_low f false = refl
 
@@ -310,15 +267,6 @@ module _ (name : List ℕ) (kind : Kind) (settings : Settings) (parent : ℕ) (s
       (member_passes (λ x. nat_lt x g.next_serial) parent (serials_of g.rows)
       (sym (row_is_listed g.rows parent) ∙ there) below)
 
-  missing : (o : Option Row) → find_row g.rows g.next_serial ≡ o → o ≡ None
-  missing None found = refl
-  missing (Some r) found =
-      let listed : has g.next_serial (serials_of g.rows) ≡ true =
-      sym (row_is_listed g.rows g.next_serial) ∙ ap is_some found in
-      let gone : has g.next_serial (serials_of g.rows) ≡ false =
-      below_absent g.next_serial (serials_of g.rows) below in
-      let never : true ≡ false = sym listed ∙ gone in cc
-
   inside_case : (x : ℕ) (b c : Bool) →
       Alike (option_and_then inside_of (cond b (Some row) None)) (cond (has_items kind && b) (Some []) None)
   unfolding new_row
@@ -337,10 +285,10 @@ module _ (name : List ℕ) (kind : Kind) (settings : Settings) (parent : ℕ) (s
   unfolding new_row at_parent rank_with weight_with
   one_row = record {
     inside = λ x none. rw apart (inside_case x (g.next_serial == x) true);
-    ranks = rw (missing (find_row g.rows g.next_serial) refl)
+    ranks = rw (fresh_row g.rows g.next_serial below)
         (and_both _ _ (rank_low (λ c. rank_by (inside_with shown_item g.rows) 16 c)
         (has_items kind && (g.next_serial == g.next_serial))) refl);
-    weights = rw (missing (find_row g.rows g.next_serial) refl)
+    weights = rw (fresh_row g.rows g.next_serial below)
         (and_both _ _ (weight_low (λ c. weight_by (inside_with shown_item g.rows) 16 c)
         (has_items kind && (g.next_serial == g.next_serial))) refl);
     items = rw apart refl;
@@ -364,7 +312,7 @@ pub late_no_memory : (new : NewItem) (rows : List Row) (count : ℕ) →
 unfolding late_cause_with
 late_no_memory new rows count =
     none (not (list_all (λ r. nat_le (rank_with new rows r.serial) 16) rows)) (nat_lt 512 count)
-    (nat_lt 2047 (item_count rows))
+    (nat_lt 2048 (item_count rows + 1))
     (not (list_all (λ r. nat_le (weight_with new rows r.serial) 4096) rows))
   where
     none : (a b c d : Bool) → late_by a b c d ≡ Some NoMemory → ⊥
@@ -378,14 +326,9 @@ late_no_memory new rows count =
 pub late_few : (new : NewItem) (rows : List Row) (count : ℕ) →
     late_cause_with new rows count ≡ None → item_count rows < 2048
 unfolding late_cause_with
-late_few new rows count =
-    few (not (list_all (λ r. nat_le (rank_with new rows r.serial) 16) rows)) (nat_lt 512 count)
-    (nat_lt 2047 (item_count rows)) refl
-    (not (list_all (λ r. nat_le (weight_with new rows r.serial) 4096) rows))
-  where
-    few : (a b c : Bool) → nat_lt 2047 (item_count rows) ≡ c → (d : Bool) →
-        late_by a b c d ≡ None → item_count rows < 2048
-    few true b c is d h = cc
-    few false true c is d h = cc
-    few false false true is d h = cc
-    few false false false is d h = grind (arith, nat_tests, is)
+late_few new rows count none =
+    let deep = no_cause (not (list_all (λ r. nat_le (rank_with new rows r.serial) 16) rows)) _ _
+    none in
+    let many = no_cause (nat_lt 512 count) _ _ deep.1 in
+    let items = no_cause (nat_lt 2048 (item_count rows + 1)) _ _ many.1 in
+    grind (arith, nat_tests, items.0)

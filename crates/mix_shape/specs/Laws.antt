@@ -16,7 +16,7 @@ use Rattle.mix_model.specs.Marks.{Mark, settled_by}
 use Rattle.mix_model.specs.Values.{is_place, is_sound, are_settings}
 use Rattle.mix_model.specs.Edits.{scene_created, group_created, input_created, item_added}
 use Rattle.mix_model.specs.Edits.{item_duplicated, item_removed, item_moved, input_set, renamed}
-use Rattle.mix_model.specs.Edits.{source_removed, next_destroyed, hold_made, hold_released}
+use Rattle.mix_model.specs.Edits.{source_removed, next_destroyed, hold_made, hold_released, let_go}
 use Rattle.mix_model.specs.Edits.{watch_made, watch_dropped, frame_held, frame_released}
 use Rattle.mix_model.specs.Edits.{channel_set, preview_set, clock_set, empty_graph}
 use Rattle.mix_model.specs.Causes.{scene_cause, shown_cause, item_cause, copy_cause, hold_cause}
@@ -120,6 +120,11 @@ WatchKeepsShape = (g : GraphState) → GraphShape g → (x : ℕ) → watch_caus
 
 abbrev pub DropKeepsShape : Type 0
 DropKeepsShape = (g : GraphState) → GraphShape g → (id : ℕ) → KeepsShape g (watch_dropped id)
+
+-- holds and watches that are let go as one
+abbrev pub LetGoKeepsShape : Type 0
+LetGoKeepsShape = (g : GraphState) → GraphShape g → (holds watches : List ℕ) →
+    KeepsShape g (let_go holds watches)
 
 -- a frame that isn't refused and isn't in flight, and one that ends
 abbrev pub FrameKeepsShape : Type 0

@@ -1,8 +1,9 @@
 -- A new item, and perhaps a new row that it shows, beside the rows as they are: what their ranks and
 -- weights would be, and so why the item is refused.
-use Rattle.std.specs.Prelude.{ℕ, List, [], ◌∷◌, not, find, nat_le, nat_lt, Option, Some, None}
-use Rattle.std.specs.Prelude.{if◌then◌else◌, ◌==◌, ◌&&◌}
+use Rattle.std.specs.Prelude.{ℕ, List, [], ◌∷◌, not, find, nat_le, Option, Some, None}
+use Rattle.std.specs.Prelude.{if◌then◌else◌, ◌==◌, ◌&&◌, ◌+◌}
 use Rattle.std.specs.List.{list_all}
+use Rattle.mix_base.specs.Limits.{most_rows, most_items, most_weight}
 use Rattle.mix_model.specs.declared.row.Row.{Row}
 use Rattle.mix_model.specs.Sets.{has}
 use Rattle.mix_model.specs.Rows.{is_at, children_of, has_items}
@@ -40,9 +41,11 @@ weight_with new rows x = weight_by (inside_with new rows) 17 x
 abbrev pub causes_with : NewItem → List Row → ℕ → List Cause
 causes_with new rows count =
     (not (list_all (λ r. nat_le (rank_with new rows r.serial) 16) rows), Depth)
-    ∷ (above 512 count ∷ ((nat_lt 2047 (item_count rows), TooMany 2048)
-    ∷ ((not (list_all (λ r. nat_le (weight_with new rows r.serial) 4096) rows), TooMany 4096)
-    ∷ [])))
+    ∷ (above most_rows count ∷ (above most_items (item_count rows + 1)
+    ∷ ((
+      not (list_all (λ r. nat_le (weight_with new rows r.serial) most_weight) rows),
+      TooMany most_weight,
+    ) ∷ [])))
 
 unfoldable pub late_cause_with : NewItem → List Row → ℕ → Option GraphFault
 late_cause_with new rows count = first_cause (causes_with new rows count)

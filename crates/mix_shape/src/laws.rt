@@ -5,6 +5,7 @@ ghost use Rattle.mix_shape.specs.Laws.{ItemKeepsShape, CopyKeepsShape, TakingKee
 ghost use Rattle.mix_shape.specs.Laws.{MovingKeepsShape, SettingKeepsShape, RenamingKeepsShape};
 ghost use Rattle.mix_shape.specs.Laws.{RemovalKeepsShape, DestructionKeepsShape, HoldKeepsShape};
 ghost use Rattle.mix_shape.specs.Laws.{ReleaseKeepsShape, WatchKeepsShape, DropKeepsShape};
+ghost use Rattle.mix_shape.specs.Laws.{LetGoKeepsShape};
 ghost use Rattle.mix_shape.specs.Laws.{FrameKeepsShape, EndKeepsShape, ChannelKeepsShape};
 ghost use Rattle.mix_shape.specs.Laws.{PreviewKeepsShape, ClockKeepsShape, EmptyHasShape};
 ghost use Rattle.mix_shape.specs.Laws.{SceneCausesStand, InputCausesStand, ItemCausesStand};
@@ -54,6 +55,7 @@ pub fn holds_keep_the_shape()
     ensures released { ReleaseKeepsShape }
     ensures watched { WatchKeepsShape }
     ensures dropped { DropKeepsShape }
+    ensures let_go { LetGoKeepsShape }
     ensures taken { FrameKeepsShape }
     ensures ended { EndKeepsShape }
 {}

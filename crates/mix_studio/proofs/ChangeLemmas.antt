@@ -1,15 +1,14 @@
 -- What the calls leave of the whole studio. In each lemma `v` are the parts that the code has in hand,
 -- and `m` is the studio that they are.
-use Rattle.std.proofs.Common.{◌≡◌, ◌∙◌, ℕ, ◌+◌, ◌<◌, ◌≤◌, ◌==◌, Bool, true, false, cond, not}
-use Rattle.std.proofs.Common.{List, [], ◌∷◌, Option, Some, None, IsTrue, IfSome, refl, sym, ap, subst, arith}
-use Rattle.std.proofs.Common.{Result, Ok, Err, IsErr, OnOk, OnErr, is_ok, length, option_to_list, ◌↔◌}
-use Rattle.std.proofs.Common.{take, nat_lt, ◌⊎◌, inr}
+use Rattle.std.proofs.Common.{◌≡◌, ◌∙◌, ℕ, ◌+◌, ◌<◌, ◌≤◌, Bool, true, false, not}
+use Rattle.std.proofs.Common.{List, [], ◌∷◌, Option, Some, None, IsTrue, refl, sym, ap, subst, arith}
+use Rattle.std.proofs.Common.{Result, Ok, Err, OnOk, OnErr, is_ok, length, option_to_list}
+use Rattle.std.proofs.Common.{take, ◌⊎◌, inr}
 use Rattle.std.specs.Option.{option_map_or}
 use mathlib.Core.Bool.{beq}
 use Rattle.std.specs.Prelude.{slice_get}
 use Rattle.std.specs.List.{list_all, list_any}
 use Rattle.std.proofs.lemmas.Bool.{lt-ltb, le-ltb}
-use Rattle.mix_base.specs.declared.rate.Rate.{Rate}
 use Rattle.mix_model.specs.Edits.{channel_set, clock_set, frame_held, frame_released, next_destroyed}
 use Rattle.mix_model.specs.Edits.{preview_set, source_removed}
 use Rattle.mix_model.specs.declared.kind.Kind.{Kind}
@@ -19,23 +18,22 @@ use Rattle.mix_model.specs.declared.row.Row.{Row}
 use Rattle.mix_model.specs.Holders.{names}
 use Rattle.mix_model.specs.Lookups.{named_by, row_of, row_passes}
 use Rattle.mix_model.specs.Rows.{is_group, is_scene}
-use Rattle.mix_model.specs.Marks.{GraphModel, Mark, edited, settled_by, was_active}
+use Rattle.mix_model.specs.Marks.{GraphModel, edited, settled_by}
 use Rattle.mix_model.specs.Program.{advance_program, channel_of, choose_transition, forget_scene}
 use Rattle.mix_model.specs.Program.{set_program, target_of}
 use Rattle.mix_model.specs.Recordings.{no_recording, picture_bytes, picture_recorded}
-use Rattle.mix_model.specs.Sets.{agree, has, is_distinct}
+use Rattle.mix_model.specs.Sets.{agree, has}
 use Rattle.mix_model.specs.Shape.{GraphShape}
 use Rattle.mix_model.specs.State.{GraphState, ProgramState, StudioState}
 use Rattle.mix_model.specs.Studio.{frame_ended, has_room, mode_preview, other_scene, picture_taken}
 use Rattle.mix_model.specs.Studio.{program_set, row_destroyed, scene_previewed, scene_removed}
-use Rattle.mix_model.specs.Studio.{studio_mode_set, transition_chosen, with_program}
+use Rattle.mix_model.specs.Studio.{studio_mode_set, transition_chosen}
 use Rattle.mix_model.specs.Voices.{ends_of}
-use Rattle.mix_model.specs.Walks.{is_active}
 use Rattle.mix_model.specs.WholeShape.{StudioShape}
 use Rattle.mix_graph.specs.Refused.{is_missing, is_no_other, may_be_set}
 use Rattle.mix_transition.specs.Shape.{BusShape}
 use Rattle.mix_studio.specs.Programs.{on_program}
-use Rattle.mix_studio.specs.Studios.{StudioModel, graph_in, mode_set, settled_since, studio_edited}
+use Rattle.mix_studio.specs.Studios.{StudioModel, graph_in, mode_set, studio_edited}
 use Rattle.mix_studio.specs.Studios.{studio_with, tick_done, with_graph}
 use Rattle.mix_studio.proofs.RemovalLemmas.{unnamed}
 use Rattle.mix_studio.proofs.RemovalLemmas.{other_differs, other_listed, forgotten_scene, removed_once}

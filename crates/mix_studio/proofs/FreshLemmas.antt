@@ -1,14 +1,13 @@
 -- Fresh sources stay fresh with each line, and there is nothing to settle.
 use Rattle.std.proofs.Common.{◌≡◌, ◌∙◌, ℕ, ◌+◌, ◌<◌, ◌≤◌, ◌==◌, Bool, true, false, cond, not, ◌&&◌, ◌||◌}
 use Rattle.std.proofs.Common.{List, [], ◌∷◌, ◌++◌, All, map, filter, find, length, get_or}
-use Rattle.std.proofs.Common.{Option, Some, None, is_some, IfSome, refl, sym, ap, subst, arith}
+use Rattle.std.proofs.Common.{Option, Some, is_some, IfSome, refl, sym, ap, subst, arith}
 use Rattle.std.proofs.Common.{append-nil, eq-eqb, leb-true}
-use Rattle.std.specs.List.{list_all, list_any}
+use Rattle.std.specs.List.{list_any}
 use Rattle.std.proofs.lemmas.List.{length-append, length-map}
 use Rattle.std.proofs.lemmas.List.Sums.{get_or-le-sum_by}
 use Rattle.std.proofs.lemmas.List.Folds.{list_any-append}
 use Rattle.std.proofs.lemmas.List.Elements.{All-nil, All-head, All-tail, All-push, All-map}
-use Rattle.mix_model.specs.declared.item.Item.{Item}
 use Rattle.mix_model.specs.declared.item.ItemSpec.{ItemSpec}
 use Rattle.mix_model.specs.declared.kind.Kind.{Kind}
 use Rattle.mix_model.specs.declared.kind.Kind.TheVariants.{Scene, Group}
@@ -18,7 +17,7 @@ use Rattle.mix_model.specs.declared.settings.Settings.{Settings}
 use Rattle.mix_model.specs.declared.settings.Settings.TheVariants.{None as NoSettings}
 use Rattle.mix_model.specs.Causes.{item_count}
 use Rattle.mix_model.specs.Edits.{channel_set, empty_graph, group_created, input_created}
-use Rattle.mix_model.specs.Edits.{input_set, item_added, preview_set, row_added, scene_created}
+use Rattle.mix_model.specs.Edits.{input_set, item_added, preview_set, scene_created}
 use Rattle.mix_model.specs.Edits.{set_to}
 use Rattle.mix_model.specs.Holders.{is_held, is_on, lists, names, shows_some}
 use Rattle.mix_model.specs.Items.{new_item, with_item}
@@ -469,7 +468,7 @@ fresh_empty m begun present =
 pub serials_left : (m : GraphModel) → IsFresh m → GraphShape m.present →
     m.present.next_serial < 4294967295
 serials_left m fresh shape =
-    let few : length m.present.rows ≤ 512 = leb-true (length m.present.rows) 512 shape.few_rows in
+    let few : length m.present.rows ≤ 512 = leb-true (length m.present.rows) 512 shape.limits.few_rows in
     let serials : m.present.next_serial ≡ length m.present.rows + 1 = fresh.serials in
     omega (arith, few, serials)
 
@@ -488,7 +487,7 @@ items_left m x fresh shape =
     let rows : List Row = m.present.rows in
     found_has (λ r. r.next_item < 4294967295) (is_at x) rows
     (λ k d within.
-    let few : item_count rows ≤ 2048 = leb-true (item_count rows) 2048 shape.few_items in
+    let few : item_count rows ≤ 2048 = leb-true (item_count rows) 2048 shape.limits.few_items in
     let items : (get_or rows k d).next_item ≡ length (get_or rows k d).items + 1 =
     (fresh.rows k d within).items in
     let part : length (get_or rows k d).items ≤ item_count rows =

@@ -1,6 +1,6 @@
 -- What is held while channel 0 is set, or a frame is taken.
-use Rattle.std.proofs.Common.{◌≡◌, ◌∙◌, ℕ, ◌==◌, ◌+◌, Bool, true, false, ◌&&◌, ◌||◌}
-use Rattle.std.proofs.Common.{List, [], ◌∷◌, ◌++◌, take, refl, sym, ap}
+use Rattle.std.proofs.Common.{◌≡◌, ◌∙◌, ℕ, ◌==◌, Bool, true, false, ◌||◌}
+use Rattle.std.proofs.Common.{List, [], ◌∷◌, ◌++◌, take, refl}
 use Rattle.std.specs.Prelude.{slice_set}
 use Rattle.std.specs.List.{list_all, list_any}
 use Rattle.std.proofs.lemmas.List.Folds.{list_any-append}
@@ -49,7 +49,7 @@ pub channel_holds : (g : GraphState) → GraphShape g → (c : Channel) (x : ℕ
 unfolding is_held channel_set
 channel_holds g shape c x held = set_holds g c x g.channels
     (list_any (shows_some x) g.rows || (list_any (is_on x) g.holds || list_any (lists x) g.frames))
-    shape.program_channel held
+    shape.parts.beside.channels.program_channel held
 
 channel_rows : (g : GraphState) (c : Channel) → (channel_set 0 c g).rows ≡ g.rows
 unfolding channel_set

@@ -1,8 +1,8 @@
 -- Each line of a collection is one call of the sources, and isn't refused.
 use Rattle.std.proofs.Common.{◌≡◌, ◌∙◌, ℕ, ◌+◌, ◌<◌, ◌≤◌, ◌==◌, Bool, true, false, cond, not, ◌&&◌, ◌||◌}
 use Rattle.std.proofs.Common.{List, [], ◌∷◌, find, Option, Some, None, is_some, IsTrue, refl, sym, ap}
-use Rattle.std.proofs.Common.{subst, arith, add-one, leb-true, eqb-true, eq-eqb, nat_lt, inl, inr, ◌⊎◌, get_or, drop, length}
-use Rattle.std.proofs.Common.{IfSome, Result, Ok, Err, is_ok, suc, zero}
+use Rattle.std.proofs.Common.{subst, arith, add-one, leb-true, eqb-true, eq-eqb, inr, ◌⊎◌, get_or, drop, length}
+use Rattle.std.proofs.Common.{IfSome, Result, is_ok, suc, zero}
 use Rattle.std.proofs.Math.Seq.{drop-cons}
 use Rattle.std.specs.Option.{option_map_or}
 use Rattle.std.specs.List.{list_all, list_any}
@@ -30,8 +30,7 @@ use Rattle.mix_model.specs.Causes.{shown_early, unknown}
 use Rattle.mix_model.specs.Collections.{line_fits}
 use Rattle.mix_model.specs.Edits.{channel_set, group_created, input_created, input_set, item_added}
 use Rattle.mix_model.specs.Edits.{empty_graph, scene_created}
-use Rattle.mix_model.specs.Holders.{find_named, is_named, is_named_row, named_row_or_none}
-use Rattle.mix_model.specs.Items.{asked}
+use Rattle.mix_model.specs.Holders.{find_named, is_named, named_row_or_none}
 use Rattle.mix_model.specs.Lines.{line_cause, line_done, line_early, line_late, lines_done}
 use Rattle.mix_model.specs.Lines.{serial_named, sound_set, unless}
 use Rattle.mix_model.specs.Lookups.{named_by, row_of, row_passes}
@@ -39,7 +38,7 @@ use Rattle.mix_model.specs.Marks.{GraphModel, edited}
 use Rattle.mix_model.specs.Rows.{is_at, is_input, is_tone, serials_of}
 use Rattle.mix_model.specs.Sets.{rises_above}
 use Rattle.mix_model.specs.Shape.{GraphShape}
-use Rattle.mix_model.specs.State.{Channel, GraphState}
+use Rattle.mix_model.specs.State.{GraphState}
 use Rattle.mix_model.specs.Values.{are_settings, is_between, is_place, is_sound}
 use Rattle.mix_model.proofs.SetLemmas.{and_both, and_first, and_second, found_test}
 use Rattle.mix_graph.specs.Refused.{is_missing, may_be_set}
@@ -262,7 +261,7 @@ no_zero : (g : GraphState) → GraphShape g → (o : Option Row) → row_of g 0 
 no_zero g shape None found named = named
 no_zero g shape (Some r) found named =
     let same : r.serial ≡ 0 = eqb-true r.serial 0 (found_test (is_at 0) g.rows r found) in
-    let above : 0 < r.serial = later_found 0 g.rows shape.serials_rise (is_at 0) r found in
+    let above : 0 < r.serial = later_found 0 g.rows shape.parts.rows.serials_rise (is_at 0) r found in
     absurd (omega (arith, same, above))
 
 -- the row of a name that isn't refused is the one of its serial
@@ -277,7 +276,7 @@ name_case g shape name row (Some r) found named at =
     let serial : serial_named g name ≡ r.serial =
     ap (λ o. option_map_or (λ r. r.serial) o 0) found in
     let own : row_of g r.serial ≡ Some r =
-    own_found 0 g.rows shape.serials_rise _ r found in
+    own_found 0 g.rows shape.parts.rows.serials_rise _ r found in
     found ∙ sym own ∙ ap (row_of g) (sym serial) ∙ at
 
 pub sound_row : (g : GraphState) → GraphShape g → (name : List ℕ) (sound : Sound) (x : ℕ)
@@ -324,7 +323,7 @@ sound_fits g shape name sound x row settings is none at same =
     ∙ ap (row_passes g (λ r. is_tone r.kind)) is ∙ sound_tone g name sound none in
     let fit : (are_settings row.kind row.settings && is_sound row.sound) ≡ true =
     found_passes (is_at x) (λ r. are_settings r.kind r.settings && is_sound r.sound) g.rows row at
-    shape.settings_fit in
+    shape.parts.rows.settings_fit in
     inr (ap (λ o. option_map_or (λ (r : Row). is_input r.kind && are_settings r.kind settings) o
     false) at
     ∙ and_both _ _ (tone_input row.kind tone)

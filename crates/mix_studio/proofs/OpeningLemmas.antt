@@ -1,20 +1,19 @@
 -- The studio that a collection opens.
-use Rattle.std.proofs.Common.{◌≡◌, ◌∙◌, ℕ, ◌==◌, Bool, true, false, cond, not, ◌&&◌, ◌||◌, nat_lt}
+use Rattle.std.proofs.Common.{◌≡◌, ◌∙◌, ℕ, ◌==◌, Bool, true, false, not, ◌||◌, nat_lt}
 use Rattle.std.proofs.Common.{List, [], ◌∷◌, Option, Some, None, option_to_list, IfSome, IsTrue}
 use Rattle.std.proofs.Common.{IsErr, OnOk, ◌↔◌, Result, Ok, Err, is_ok, is_some, refl, sym, ap, subst, take, length}
 use Rattle.std.specs.Prelude.{slice_set}
 use Rattle.std.specs.List.{list_all, list_any}
 use Rattle.mix_model.specs.declared.collection.Collection.{Collection}
 use Rattle.mix_model.specs.declared.fault.GraphFault.{GraphFault}
-use Rattle.mix_model.specs.declared.row.Row.{Row}
-use Rattle.mix_model.specs.Causes.{cause_or, first_cause, not_kind, unknown}
+use Rattle.mix_model.specs.Causes.{cause_or, not_kind, unknown}
 use Rattle.mix_model.specs.Collections.{IsCollection, opens}
 use Rattle.mix_model.specs.Edits.{channel_set, empty_graph, preview_set}
 use Rattle.mix_model.specs.Holders.{is_held, is_named, is_named_row}
 use Rattle.mix_model.specs.Lines.{lines_done, named_scene_cause, serial_named, unless}
 use Rattle.mix_model.specs.Lookups.{named_by, row_passes}
 use Rattle.mix_model.specs.Marks.{GraphModel, actions_begun, edited, marks_of}
-use Rattle.mix_model.specs.Opening.{ends_cause, opening_of, opening_preview, opening_program}
+use Rattle.mix_model.specs.Opening.{ends_cause, opening_of, opening_preview}
 use Rattle.mix_model.specs.Opening.{opening_studio, preview_cause, studio_over}
 use Rattle.mix_model.specs.Rows.{is_scene}
 use Rattle.mix_model.specs.Shape.{GraphShape}
@@ -218,7 +217,8 @@ module _ (c : Collection) (is : IsCollection c) (g h : GraphState)
   opened_shape sources = record {
     sources = sources;
     program = (let long : (length (ends_set to x g).channels == 64) ≡ true =
-        subst (λ (k : GraphState). (length k.channels == 64) ≡ true) made sources.channel_count in
+        subst (λ (k : GraphState). (length k.channels == 64) ≡ true) made
+        sources.parts.beside.channels.channel_count in
         ap (λ (k : GraphState). take 1 k.channels) made
         ∙ ap (take 1) (set_channels to x g)
         ∙ first_set g.channels (Some x, None)

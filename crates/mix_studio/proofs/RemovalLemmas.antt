@@ -1,9 +1,9 @@
 -- A scene that is removed.
-use Rattle.std.proofs.Common.{◌≡◌, ◌∙◌, ℕ, ◌+◌, ◌≤◌, ◌==◌, Bool, true, false, cond, not, ◌&&◌, ◌||◌}
-use Rattle.std.proofs.Common.{List, [], ◌∷◌, ◌++◌, Option, Some, None, find, length, take}
-use Rattle.std.proofs.Common.{get_or, suc, unwrap_or, zero, IsTrue, refl, sym, ap, subst, arith, eq-eqb, eqb-true}
+use Rattle.std.proofs.Common.{◌≡◌, ◌∙◌, ℕ, ◌≤◌, ◌==◌, Bool, true, false, cond, not}
+use Rattle.std.proofs.Common.{List, [], ◌∷◌, ◌++◌, Some, find, length, take}
+use Rattle.std.proofs.Common.{get_or, suc, unwrap_or, zero, IsTrue, refl, sym, ap, arith, eq-eqb, eqb-true}
 use Rattle.std.specs.Prelude.{slice_get, slice_set}
-use Rattle.std.specs.List.{list_all, list_any}
+use Rattle.std.specs.List.{list_any}
 use Rattle.mix_model.specs.Edits.{channel_set, source_removed}
 use Rattle.mix_model.specs.Holders.{names}
 use Rattle.mix_model.specs.Lookups.{named_by, registry}
@@ -11,11 +11,9 @@ use Rattle.mix_model.specs.Marks.{Mark, settled_by}
 use Rattle.mix_model.specs.Program.{channel_of, forget_scene, shown_without}
 use Rattle.mix_model.specs.Sets.{has, is_distinct}
 use Rattle.mix_model.specs.Shape.{GraphShape}
-use Rattle.mix_model.specs.State.{Channel, GraphState, ProgramState, Shown, Rest, Fade, StudioState}
-use Rattle.mix_model.specs.Studio.{other_scene, scene_removed}
+use Rattle.mix_model.specs.State.{Channel, GraphState, ProgramState, Shown, Rest, Fade}
+use Rattle.mix_model.specs.Studio.{other_scene}
 use Rattle.mix_model.proofs.SetLemmas.{and_first, or_left, or_right}
-use Rattle.mix_studio.specs.Studios.{StudioModel, studio_edited}
-use Rattle.mix_studio.specs.Programs.{on_program}
 use Rattle.mix_studio.proofs.HeldLemmas.{channel_kills_none}
 use Rattle.mix_studio.proofs.TwiceLemmas.{settled_once, removed_passes}
 
@@ -62,7 +60,7 @@ other_in y (a ∷ (b ∷ rest)) more two once = first (a == y) refl
 
 module _ (g : GraphState) (shape : GraphShape g) (y : ℕ) (two : 2 ≤ length g.scenes) where
   some_other : (z : ℕ) × IsOther y g.scenes z
-  some_other = other_in y g.scenes g.inputs two shape.registry_once
+  some_other = other_in y g.scenes g.inputs two shape.parts.registry.registry_once
 
   other_is : other_scene y g ≡ some_other.0
   other_is = ap (λ o. unwrap_or o 0) some_other.1.found

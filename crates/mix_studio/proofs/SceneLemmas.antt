@@ -1,7 +1,7 @@
 -- Scenes of the registry, and what may stand on channel 0.
-use Rattle.std.proofs.Common.{◌≡◌, ◌∙◌, ℕ, ◌==◌, ◌+◌, nat_lt, Bool, true, false, cond, not, ◌&&◌, ◌||◌}
-use Rattle.std.proofs.Common.{List, [], ◌∷◌, ◌++◌, Option, Some, None, IsTrue, refl, sym, ap, subst}
-use Rattle.std.proofs.Common.{Result, Ok, Err, IsErr, OnOk, take, inl, inr}
+use Rattle.std.proofs.Common.{◌≡◌, ◌∙◌, ℕ, ◌==◌, ◌+◌, nat_lt, Bool, true, false, cond}
+use Rattle.std.proofs.Common.{List, [], ◌∷◌, Option, Some, None, IsTrue, refl, sym, ap, subst}
+use Rattle.std.proofs.Common.{Result, Ok, Err, IsErr, OnOk, take}
 use Rattle.std.specs.Option.{option_map_or}
 use Rattle.std.specs.List.{list_all, list_any}
 use Rattle.std.proofs.lemmas.Bool.{eqb-true}
@@ -31,7 +31,7 @@ passes_some test (Some r) passed = (r, refl)
 
 module _ (g : GraphState) (shape : GraphShape g) (x : ℕ) (here : has x g.scenes ≡ true) where
   pub scene_passes : row_passes g (λ r. is_scene r.kind) x ≡ true
-  scene_passes = member_passes _ x g.scenes here shape.scenes_scenes
+  scene_passes = member_passes _ x g.scenes here shape.parts.registry.scenes_scenes
 
   scene_row : (r : Row) × (row_of g x ≡ Some r)
   scene_row = passes_some (λ r. is_scene r.kind) (row_of g x) scene_passes
@@ -111,7 +111,7 @@ left_where_ok (Err fault) P ok not_err = let no : false ≡ true = not_err refl 
 channel_passes : (g : GraphState) (c : Channel) → GraphShape g → take 1 g.channels ≡ c ∷ [] →
     is_program_channel g c ≡ true
 channel_passes g c shape named = and_first _ _
-    (ap (list_all (is_program_channel g)) (sym named) ∙ shape.program_channel)
+    (ap (list_all (is_program_channel g)) (sym named) ∙ shape.parts.beside.channels.program_channel)
 
 pub program_listed : (s : StudioState) → StudioShape s →
     list_all (λ x. has x s.graph.scenes) (named_by (channel_of s.program.shown)) ≡ true

@@ -4,7 +4,7 @@ use Rattle.std.proofs.Common.{List, [], ◌∷◌, ◌++◌, drop, flat_map, get
 use Rattle.std.proofs.Common.{Option, Some, None, option_to_list, refl, sym, ap, ◌∙◌, subst, arith}
 use Rattle.std.proofs.Common.{IfOk, Result, Ok, Err, ◌==◌, eqb-true, inl, inr, append-nil, append_assoc, add-one}
 use Rattle.std.proofs.Math.Seq.{drop-cons}
-use Rattle.std.specs.Prelude.{nat_le, nat_lt, slice_index_or}
+use Rattle.std.specs.Prelude.{nat_le, slice_index_or}
 use Rattle.std.specs.Option.{option_map_or}
 use Rattle.std.specs.List.{list_all, list_any, range_with_len}
 use Rattle.std.proofs.lemmas.Bool.{lt-ltb}
@@ -45,11 +45,11 @@ passed_is_row test (Some r) passed = refl
 module _ (g : GraphState) (shape : GraphShape g) where
   scene_row : (x : ℕ) → has x g.scenes ≡ true → has_row g.rows x ≡ true
   scene_row x listed = passed_is_row (λ r. is_scene r.kind) (row_of g x)
-      (member_passes (row_passes g (λ r. is_scene r.kind)) x g.scenes listed shape.scenes_scenes)
+      (member_passes (row_passes g (λ r. is_scene r.kind)) x g.scenes listed shape.parts.registry.scenes_scenes)
 
   input_row : (x : ℕ) → has x g.inputs ≡ true → has_row g.rows x ≡ true
   input_row x listed = passed_is_row (λ r. is_input r.kind) (row_of g x)
-      (member_passes (row_passes g (λ r. is_input r.kind)) x g.inputs listed shape.inputs_inputs)
+      (member_passes (row_passes g (λ r. is_input r.kind)) x g.inputs listed shape.parts.registry.inputs_inputs)
 
   listed_row : (x : ℕ) → has x (registry g) ≡ true → has_row g.rows x ≡ true
   listed_row x listed = elim (or_cases (has x g.scenes) (has x g.inputs)
@@ -94,7 +94,7 @@ module _ (g : GraphState) (shape : GraphShape g) where
   pub side_rows : (roots : List ℕ) → roots ≡ side_roots g →
       IsTrue (list_all (has_row g.rows) roots)
   side_rows roots is = ap (list_all (has_row g.rows)) is ∙ channels_rows (drop 1 g.channels)
-      shape.side_channels
+      shape.parts.beside.channels.side_channels
 
 -- and the ends of the program
 first_row : (rows : List Row) (shown : Shown) →
@@ -277,7 +277,7 @@ sides_begin g roots none = ap (λ xs. xs ++ flat_map named_by (drop 1 g.channels
 
 module _ (h : GraphState) (shape : GraphShape h) where
   many : length h.channels ≡ 64
-  many = eqb-true (length h.channels) 64 shape.channel_count
+  many = eqb-true (length h.channels) 64 shape.parts.beside.channels.channel_count
 
   -- with what one channel more names
   pub sides_more : (n : ℕ) → n < 64 → (before after : List ℕ) (channel : Channel) →

@@ -1,6 +1,6 @@
 -- What is settled twice against the same marks is settled once, where nothing begins to die between.
 use Rattle.std.proofs.Common.{◌≡◌, ℕ, zero, suc, ◌==◌, Bool, true, false, cond, not, ◌&&◌, ◌||◌}
-use Rattle.std.proofs.Common.{List, [], ◌∷◌, ◌++◌, map, filter, refl, sym, ap, ◌∙◌, append-nil}
+use Rattle.std.proofs.Common.{List, [], ◌∷◌, ◌++◌, map, filter, refl, ap, ◌∙◌, append-nil}
 use Rattle.std.specs.List.{list_all, list_any}
 use Rattle.mix_model.specs.declared.row.Row.{Row}
 use Rattle.mix_model.specs.Edits.{channel_set, clock_set, source_removed}
@@ -14,7 +14,8 @@ use Rattle.mix_model.specs.Settle.{newly_dying}
 use Rattle.mix_model.specs.Shape.{GraphShape}
 use Rattle.mix_model.specs.State.{GraphState, Channel}
 use Rattle.mix_model.specs.Walks.{is_active, is_reached, is_walked, leads}
-use Rattle.mix_model.proofs.BlindLemmas.{Blind, held_same, serials}
+use Rattle.mix_model.proofs.SteadyLemmas.{steady_serials}
+use Rattle.mix_model.proofs.BlindLemmas.{Blind, held_same}
 use Rattle.mix_model.proofs.SetLemmas.{and_first, and_second}
 use Rattle.mix_model.proofs.SettleLemmas.{find_changed, some_changed, unseen_option}
 
@@ -30,8 +31,7 @@ renumbered f g = record g { rows = map (numbered f) g.rows }
 
 pub blind_to_numbers : (f : ℕ → ℕ) → Blind (numbered f)
 blind_to_numbers f = record {
-  serial = λ r. refl;
-  kind = λ r. refl;
+  steady = record { serial = λ r. refl; kind = λ r. refl };
   children = λ r. refl;
   ids = λ r. refl;
   next = λ r. refl;
@@ -74,7 +74,7 @@ module _ (f : ℕ → ℕ) (g : GraphState) where
   unfolding newly_dying
   dying_same =
       ap (filter (λ x. not (is_held (renumbered f g) x) && not (has x g.dying)))
-      (serials (numbered f) (blind_to_numbers f) g.rows)
+      (steady_serials (numbered f) (blind_to_numbers f).steady g.rows)
       ∙ filter_same (λ x. not (is_held (renumbered f g) x) && not (has x g.dying))
       (λ x. not (is_held g x) && not (has x g.dying))
       (λ x. ap (λ b. not b && not (has x g.dying))

@@ -1,5 +1,5 @@
 -- Sources to which lines of a collection were added, and nothing else happened.
-use Rattle.std.specs.Prelude.{◌≡◌, ℕ, ◌+◌, Bool, true, List, [], ◌||◌, All, length, Option, Some, None}
+use Rattle.std.specs.Prelude.{◌≡◌, ℕ, ◌+◌, Bool, true, [], ◌||◌, All, length, Option, Some, None}
 use Rattle.std.specs.List.{list_any}
 use Rattle.mix_model.specs.declared.collection.Collection.{Collection}
 use Rattle.mix_model.specs.declared.row.Row.{Row}

@@ -4,9 +4,9 @@ ghost use Rattle.mix_events.specs.Sayable.{IsSayableEvent};
 
 use crate::{inputs, items, others, scenes};
 use mix_base::{JsonObj, NoMemory};
-use mix_events::{intent, said_text};
+use mix_events::{Said, ToldEvent, intent, said_text};
 use mix_json::{need_int, need_obj};
-use mix_model::{Event, Said};
+use mix_model::Event;
 use mix_tables::{Table, cell, copied, object};
 use std::alloc::Global;
 
@@ -51,7 +51,7 @@ impl Table for Intents {
 fn event_text(alloc: Global, event: Event) -> Result<String, NoMemory>
     requires { IsSayableEvent event }
 {
-    let said = Said::Event(event);
+    let said = Said::Event(ToldEvent::new(alloc, event)?);
     let text = said_text(alloc, &said);
     drop(said);
     copied(alloc, text?)

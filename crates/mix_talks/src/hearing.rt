@@ -1,7 +1,8 @@
 //! What messages come to.
 use mix_base::{Bytes, Bytes32, NoMemory, Text, TextFault};
+use mix_events::Said;
 use mix_json::JsonReader;
-use mix_model::{Action, Message, Said};
+use mix_model::{Action, Message};
 use mix_script::{BadLine, read_line};
 use mix_session::{Heard, Secret, Session};
 use mix_tables::{Table, cell, pieces};

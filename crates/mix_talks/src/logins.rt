@@ -2,8 +2,7 @@
 use crate::hearing::ZEROS;
 use hex::FromHex;
 use mix_base::{Bytes32, NoMemory, Text, TextFault};
-use mix_events::said_text;
-use mix_model::Said;
+use mix_events::{Said, said_text};
 use mix_session::{Secret, Session, answer_for};
 use mix_tables::{Table, cell, copied, decoded};
 use std::alloc::Global;

@@ -3,9 +3,9 @@ ghost use Rattle.std.specs.Prelude.{IfOk, IfSome, All};
 ghost use Rattle.mix_events.specs.Sayable.{IsSayableDone, IsWholeAnswer};
 
 use mix_base::{Json, NoMemory, Text};
-use mix_events::{said_text, status_name};
+use mix_events::{Said, said_text, status_name};
 use mix_json::{JsonFault, read};
-use mix_model::{Done, DoneList, Said};
+use mix_model::{Done, DoneList};
 use mix_tables::{Table, cell, copied, number};
 use std::alloc::Global;
 

@@ -2,18 +2,18 @@
 ghost use Rattle.std.specs.Prelude.{◌≡◌, ◌≢◌, ◌≤◌, ◌++◌, All, IsTrue, codes, decimal};
 ghost use Rattle.mix_outside.specs.Faults.{Rose};
 ghost use Rattle.mix_model.specs.Plans.{is_shot, painted};
-ghost use Rattle.mix_events.specs.Sayable.{IsSayable};
+ghost use Rattle.mix_events.specs.Sayings.{IsSayable};
 ghost use Rattle.mix_engine.specs.Answers.{IsSayableReply};
 ghost use Rattle.mix_program.specs.Ends.{Puts};
-ghost use Rattle.mix_program.specs.Output.{conn_line, text_line, told_lines, said_lines, gone_line};
+ghost use Rattle.mix_program.specs.Output.{conn_line, text_line, told_lines, said_lines, gone_line, destroyed_line};
 ghost use Rattle.mix_program.specs.Output.{reply_lines, IsPaintable};
 ghost use Rattle.mix_program.specs.PictureText.{frame_line};
 
 use crate::running::Wrote;
 use crate::running::pictures::frame_line;
-use mix_base::ConnId;
-use mix_events::said_text;
-use mix_model::{Reply, Said, Shot};
+use mix_base::{ConnId, Serial};
+use mix_events::{Reply, Said, said_text};
+use mix_model::Shot;
 use mix_outside::{Put, Sink};
 use mix_raster::paint;
 use mix_script::escape;
@@ -44,13 +44,14 @@ fn put_text<K: Sink>(alloc: Global, out: &mut K, conn: ConnId, said: &Said) -> W
     let Ok(text) = said_text(alloc, said) else {
         return Wrote::NoMemory;
     };
-    let escaped = escape(alloc, text.as_str());
+    let escaped = escape(alloc, &text);
     drop(text);
     let Ok(text) = escaped else {
         return Wrote::NoMemory;
     };
     let number = conn.0;
-    let line = format!(in alloc; ">c{number} {text}\n");
+    let shown = text.as_str();
+    let line = format!(in alloc; ">c{number} {shown}\n");
     drop(text);
     match line {
         Ok(line) => {
@@ -206,6 +207,21 @@ fn put_frame_gone<K: Sink>(alloc: Global, out: &mut K, number: u64) -> Wrote
     }
 }
 
+/// The line of a row that was destroyed.
+#[tactic(auto, using(crate::proofs::Pieces::nothing_put))]
+fn put_destroyed<K: Sink>(alloc: Global, out: &mut K, serial: Serial) -> Wrote
+    ensures bytes { K.Tells → Puts result (destroyed_line serial) (K.held out.old) (K.held out.new) }
+    ensures later { K.faults out.old ≤ K.faults out.new }
+    ensures cause { result ≡ Wrote.WriteFault → Rose (K.faults out.old) (K.faults out.new) }
+    ensures steady { result ≢ Wrote.WriteFault → K.faults out.new ≡ K.faults out.old }
+{
+    let number = serial.0;
+    match format!(in alloc; "d {number}\n") {
+        Ok(line) => put(out, line.as_bytes()),
+        Err(_) => Wrote::NoMemory,
+    }
+}
+
 /// Writes the lines of a reply, and paints its shot on this canvas.
 pub fn put_reply<K: Sink>(alloc: Global, out: &mut K, canvas: (u32, u32), reply: &Reply) -> Wrote
     requires sayable { IsSayableReply reply.now }
@@ -230,6 +246,8 @@ pub fn put_reply<K: Sink>(alloc: Global, out: &mut K, canvas: (u32, u32), reply:
         Reply::NoFrame => put(out, b"v full\n"),
         Reply::FrameGone { number } => put_frame_gone(alloc, out, *number),
         Reply::NoSuchFrame => put(out, b"f none\n"),
-        Reply::Block { .. } | Reply::Destroyed(_) | Reply::Nothing => Wrote::All,
+        Reply::Destroyed(serial) => put_destroyed(alloc, out, *serial),
+        Reply::Nothing => put(out, b"d -\n"),
+        Reply::Block { .. } => Wrote::All,
     }
 }

@@ -4,7 +4,8 @@ ghost use Rattle.std.specs.Prelude.{[], IfSome, if◌then◌else◌};
 ghost use Rattle.mix_outside.specs.Lines.{lines_of};
 ghost use Rattle.mix_outside.specs.Faults.{Rose};
 ghost use Rattle.mix_script.specs.Lines.{action_of};
-ghost use Rattle.mix_engine.specs.Engines.{are_limits, line_bytes, text_bytes, has_room};
+ghost use Rattle.mix_engine.specs.Engines.{line_bytes, text_bytes, has_room};
+ghost use Rattle.mix_shape.specs.Refused.{are_limits};
 ghost use Rattle.mix_program.specs.Ends.{Ends, Turned, Follows, Finishing, ended_by};
 ghost use Rattle.mix_program.specs.Run.{run, turn, next_line, room_for};
 

@@ -1,10 +1,12 @@
 //! What is copied of that which waits.
+ghost use Rattle.mix_events.specs.Sayable.{IsSayableEvent};
+
 use crate::tests::fanouts::{ONE, TWO, come, copied, expect, tell, tell_duration, two};
 use crate::tests::have::have;
 use mix_base::{ItemId, Json, JsonObj, Name, Serial, Text};
-use mix_events::intent;
+use mix_events::{Said, intent};
 use mix_fanout::Fanout;
-use mix_model::{Event, IdList, Said};
+use mix_model::{Event, IdList};
 use std::alloc::Global;
 use std::process::Abort;
 
@@ -25,7 +27,7 @@ fn expect_room(rt: &impl Abort, alloc: Global, fanout: &Fanout) {
 fn what_is_copied_waits_until_it_is_cleared(rt: HostRuntime) {
     let alloc = rt.alloc();
     let mut fanout = two(&rt, alloc);
-    tell_duration(&rt, &mut fanout, 300, None);
+    tell_duration(&rt, alloc, &mut fanout, 300, None);
     expect_room(&rt, alloc, &fanout);
     expect(&rt, alloc, &fanout, ONE, &[300]);
     if fanout.has(ONE) {
@@ -36,14 +38,19 @@ fn what_is_copied_waits_until_it_is_cleared(rt: HostRuntime) {
     drop(fanout);
 }
 
-fn custom(rt: &impl Abort, alloc: Global) -> Event {
+fn custom(rt: &impl Abort, alloc: Global) -> Event
+    ensures { IsSayableEvent result }
+{
     let mut fields = JsonObj::new(alloc);
     let key = have(rt, Text::from_str(alloc, "key"));
     have(rt, fields.put(key, Json::Int(7)));
+    assert!(rt; !fields.has_frac());
     Event::CustomEvent { fields }
 }
 
-fn reindexed(rt: &impl Abort, alloc: Global, scene: Name) -> Event {
+fn reindexed(rt: &impl Abort, alloc: Global, scene: Name) -> Event
+    ensures { IsSayableEvent result }
+{
     let ids = have(rt, Vec::from_slice(alloc, &[ItemId(2), ItemId(1)]));
     Event::SceneItemListReindexed {
         items: IdList::from_vec(ids),
@@ -55,7 +62,7 @@ fn reindexed(rt: &impl Abort, alloc: Global, scene: Name) -> Event {
 /// The bit of an event, 0 of all else that is said.
 fn bit_of(said: &Said) -> u32 {
     match said {
-        Said::Event(event) => intent(event),
+        Said::Event(told) => intent(told.event()),
         _ => 0,
     }
 }
@@ -76,10 +83,17 @@ fn events_with_lists_and_objects_are_copied(rt: HostRuntime) {
     come(&rt, alloc, &mut fanout, ONE, ALL);
     let scene = have(&rt, Name::read(b"Stage"));
     let serial = Serial(1);
-    tell(&rt, &mut fanout, custom(&rt, alloc), None);
-    tell(&rt, &mut fanout, reindexed(&rt, alloc, scene.share()), None);
+    tell(&rt, alloc, &mut fanout, custom(&rt, alloc), None);
     tell(
         &rt,
+        alloc,
+        &mut fanout,
+        reindexed(&rt, alloc, scene.share()),
+        None,
+    );
+    tell(
+        &rt,
+        alloc,
         &mut fanout,
         Event::SceneCreated { scene, serial },
         None,

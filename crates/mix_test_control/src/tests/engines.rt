@@ -5,7 +5,8 @@ ghost use Rattle.mix_engine.specs.Openings.{IsFitting};
 use crate::tests::have::have;
 use mix_base::{Bytes32, ConnId, Limits, ListOf, Name, PassNo, Rate, Text};
 use mix_engine::{Engine, Setup};
-use mix_model::{Action, Answer, Collection, Line, Message, Reply, Said};
+use mix_events::{Answer, Reply, Said};
+use mix_model::{Action, Collection, Line, Message};
 use std::alloc::Global;
 use std::process::Abort;
 

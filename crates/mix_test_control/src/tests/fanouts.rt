@@ -1,8 +1,11 @@
 //! Connections of a fanout, what they are told, and what waits for them.
+ghost use Rattle.mix_events.specs.Sayable.{IsSayableEvent};
+
 use crate::tests::have::have;
 use mix_base::ConnId;
+use mix_events::{Said, ToldEvent};
 use mix_fanout::{Fanout, Waiting};
-use mix_model::{Event, Said};
+use mix_model::Event;
 use std::alloc::Global;
 use std::process::Abort;
 
@@ -31,16 +34,26 @@ pub fn two(rt: &impl Abort, alloc: Global) -> Fanout {
     fanout
 }
 
-pub fn tell(rt: &impl Abort, fanout: &mut Fanout, event: Event, but: Option<ConnId>) {
+/// An event comes, whose serials are short and whose numbers are whole.
+pub fn tell(rt: &impl Abort, alloc: Global, fanout: &mut Fanout, event: Event, but: Option<ConnId>)
+    requires { IsSayableEvent event }
+{
+    let told = have(rt, ToldEvent::new(alloc, event));
     have(rt, fanout.reserve(1));
     assert!(rt; fanout.spare() > 0);
-    fanout.post(event, but);
+    fanout.post(told, but);
 }
 
 /// The duration of transitions changes.
-pub fn tell_duration(rt: &impl Abort, fanout: &mut Fanout, duration: u32, but: Option<ConnId>) {
+pub fn tell_duration(
+    rt: &impl Abort,
+    alloc: Global,
+    fanout: &mut Fanout,
+    duration: u32,
+    but: Option<ConnId>,
+) {
     let event = Event::CurrentSceneTransitionDurationChanged { duration };
-    tell(rt, fanout, event, but);
+    tell(rt, alloc, fanout, event, but);
 }
 
 /// What waits for a connection that has joined.
@@ -51,10 +64,11 @@ pub fn copied(rt: &impl Abort, alloc: Global, fanout: &Fanout, conn: ConnId) -> 
 
 /// Whether an event tells of this duration.
 fn is_duration(said: &Said, wanted: u32) -> bool {
-    match said {
-        Said::Event(Event::CurrentSceneTransitionDurationChanged { duration }) => {
-            *duration == wanted
-        }
+    let Said::Event(told) = said else {
+        return false;
+    };
+    match told.event() {
+        Event::CurrentSceneTransitionDurationChanged { duration } => *duration == wanted,
         _ => false,
     }
 }

@@ -1,6 +1,6 @@
 use Rattle.std.proofs.Common.{◌≡◌, All, option_map}
 use Rattle.mix_outside.specs.Lines.{Whole}
-use Rattle.mix_collection.specs.Fitting.{Fits}
+use Rattle.mix_collection.specs.Fitting.{Fits, SetsNoChannel}
 use Rattle.mix_collection.specs.Collections.{lines_in}
 use Rattle.mix_collection.specs.Read.{behind_lines}
 use Rattle.mix_collection.specs.Within.{lines_left}
@@ -14,6 +14,7 @@ invariant-lines g l = record {
       ≡ option_map (behind_lines l.lines.items)
       (lines_in l.canvas (Whole l.feed.line.items (lines_left l.feed (g.C.Source.left l.source))));
   fits : All Fits l.lines.items;
+  unset : All SetsNoChannel l.lines.items;
   steady : g.C.Source.faults l.source ≡ g.C.Source.faults l.fn.source;
 }
 

@@ -1,15 +1,21 @@
 use Rattle.std.proofs.Common.{subst, true, false, ℕ, Option}
 use Rattle.mix_model.specs.declared.collection.Line.TheVariants.{Input}
 use Rattle.mix_engine.specs.Openings.{Adds}
-use Rattle.mix_engine.proofs.OpeningLemmas.{input_fresh, input_refused}
+use Rattle.mix_studio.proofs.FreshLemmas.{serials_left}
+use Rattle.mix_engine.proofs.OpeningLemmas.{input_adds, input_refused}
 use Rattle.mix_engine.proofs.opening.add_input.Goals as goal
+
+-- it can still be given a serial
+pub create_input-requires-clause-drawn : goal.create_input-requires-clause-drawn
+create_input-requires-clause-drawn c =
+    serials_left c.args.graph.now c.requires.fresh c.has_shape.ensures.shape
 
 -- the input is made
 pub returns-in-Ok : goal.returns-in-Ok
 returns-in-Ok c = record {
   added = subst (λ name. Adds true c.args.graph.now.present
       (Input c.args.kind name c.args.settings) c.create_input.new.self) c.share.ensures.value
-      (input_fresh c.args.graph.now c.create_input.new.self c.args.kind c.share.result
+      (input_adds c.args.graph.now c.create_input.new.self c.args.kind c.share.result
       c.args.settings c.requires.fresh c.in-Ok.ensures.refused c.in-Ok.ensures.ok);
 }
 

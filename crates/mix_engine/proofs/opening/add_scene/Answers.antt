@@ -1,14 +1,14 @@
 use Rattle.std.proofs.Common.{subst, true, false, ℕ}
 use Rattle.mix_model.specs.declared.collection.Line.TheVariants.{Scene}
 use Rattle.mix_engine.specs.Openings.{Adds}
-use Rattle.mix_engine.proofs.OpeningLemmas.{scene_fresh, scene_refused}
+use Rattle.mix_engine.proofs.OpeningLemmas.{scene_adds, scene_refused}
 use Rattle.mix_engine.proofs.opening.add_scene.Goals as goal
 
 -- the scene is made
 pub returns-in-Ok : goal.returns-in-Ok
 returns-in-Ok c = record {
   added = subst (λ name. Adds true c.args.graph.now.present (Scene name) c.create_scene.new.self)
-      c.share.ensures.value (scene_fresh c.args.graph.now c.create_scene.new.self c.share.result
+      c.share.ensures.value (scene_adds c.args.graph.now c.create_scene.new.self c.share.result
       c.requires.fresh c.in-Ok.ensures.refused c.in-Ok.ensures.ok);
 }
 

@@ -1,7 +1,7 @@
 use Rattle.std.proofs.Common.{refl, sym, ap, rules}
 use Rattle.mix_model.specs.State.{GraphState}
 use Rattle.mix_model.specs.Lines.{lines_done}
-use Rattle.mix_engine.proofs.FreshLemmas.{fresh_empty}
+use Rattle.mix_studio.proofs.FreshLemmas.{fresh_empty}
 use Rattle.mix_engine.proofs.OpeningLemmas.{stopped_at}
 use Rattle.mix_engine.proofs.opening.open_lines.Goals as goal
 

@@ -1,7 +1,8 @@
 use Rattle.std.proofs.Common.{◌≡◌, drop}
 use Rattle.mix_model.specs.Edits.{empty_graph}
 use Rattle.mix_model.specs.Lines.{lines_done}
-use Rattle.mix_engine.specs.Openings.{IsFresh, are_lines_built}
+use Rattle.mix_studio.specs.Openings.{IsFresh}
+use Rattle.mix_engine.specs.Openings.{are_lines_built}
 use Rattle.mix_engine.proofs.opening.open_lines.Given as goal
 
 -- the lines so far are built and done, and those that are left decide the rest

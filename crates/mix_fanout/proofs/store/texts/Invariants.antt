@@ -1,5 +1,5 @@
 use Rattle.std.proofs.Common.{◌≡◌, ◌≤◌, ◌+◌, ◌-◌, map, take, length, vec_len, vec_capacity}
-use Rattle.mix_model.specs.declared.said.Said.TheVariants.{Event as OfEvent}
+use Rattle.mix_events.specs.declared.said.Said.TheVariants.{Event as OfEvent}
 use Rattle.mix_fanout.specs.Keys.{events_of}
 use Rattle.mix_fanout.proofs.store.texts.Given as goal
 

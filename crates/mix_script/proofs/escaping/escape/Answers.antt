@@ -5,8 +5,9 @@ use Rattle.mix_script.specs.Escapes.{escaped, is_special}
 use Rattle.mix_script.proofs.EscapeLemmas.{escaped-plain}
 use Rattle.mix_script.proofs.escaping.escape.Goals as goal
 
-pub returns-in_ok-from_str : goal.returns-in_ok-from_str
-returns-in_ok-from_str c =
+pub returns-else-has_special : goal.returns-else-has_special
+returns-else-has_special c =
     let none : list_any is_special c.args.text.now ≡ false =
-    ap (list_any is_special) (sym c.as_bytes.ensures.value) ∙ sym c.has_special.ensures ∙ c.if-has_special.false in
-    record { value = c.in_ok-from_str.ensures.ok ∙ sym (escaped-plain c.args.text.now none) }
+    ap (list_any is_special) (sym c.bytes.ensures.value) ∙ sym c.has_special.ensures
+    ∙ c.if-has_special.false in
+    record { value = rw (escaped-plain c.args.text.now none) c.share.ensures.value }

@@ -14,4 +14,4 @@ returns-clause-input c = λ g shape name kind settings. bare_input name kind set
 pub returns-clause-item : goal.returns-clause-item
 returns-clause-item c = λ g shape parent child spec there.
     late_added parent child spec g
-    (rises_distinct 0 (serials_of g.rows) shape.serials_rise) there
+    (rises_distinct 0 (serials_of g.rows) shape.parts.rows.serials_rise) there

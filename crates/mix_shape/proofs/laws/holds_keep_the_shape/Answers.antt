@@ -1,9 +1,9 @@
 -- rows and registry stay
 use Rattle.mix_model.specs.Edits.{hold_made, hold_released, watch_made, watch_dropped}
-use Rattle.mix_model.specs.Edits.{frame_held, frame_released}
+use Rattle.mix_model.specs.Edits.{frame_held, frame_released, let_go}
 use Rattle.mix_shape.proofs.WholeLemmas.{settled_keeps}
 use Rattle.mix_shape.proofs.HoldShape.{hold_made_shape, hold_released_shape, watch_made_shape}
-use Rattle.mix_shape.proofs.HoldShape.{watch_dropped_shape}
+use Rattle.mix_shape.proofs.HoldShape.{let_go_shape, watch_dropped_shape}
 use Rattle.mix_shape.proofs.FrameShape.{frame_held_shape, frame_released_shape}
 use Rattle.mix_shape.proofs.laws.holds_keep_the_shape.Goals as goal
 
@@ -22,6 +22,10 @@ returns-clause-watched c = λ g shape x none marks begun.
 pub returns-clause-dropped : goal.returns-clause-dropped
 returns-clause-dropped c = λ g shape id marks begun.
     settled_keeps marks (watch_dropped id g) begun (watch_dropped_shape id g shape)
+
+pub returns-clause-let_go : goal.returns-clause-let_go
+returns-clause-let_go c = λ g shape holds watches marks begun.
+    settled_keeps marks (let_go holds watches g) begun (let_go_shape holds watches g shape)
 
 pub returns-clause-taken : goal.returns-clause-taken
 returns-clause-taken c = λ g shape number none fresh marks begun.

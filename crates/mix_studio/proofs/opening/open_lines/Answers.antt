@@ -1,4 +1,4 @@
-use Rattle.std.proofs.Common.{refl, sym, ap, rules}
+use Rattle.std.proofs.Common.{sym, ap, rules}
 use Rattle.mix_model.specs.State.{GraphState}
 use Rattle.mix_model.specs.Lines.{lines_done}
 use Rattle.mix_studio.proofs.FreshLemmas.{fresh_empty}

@@ -1,49 +1,73 @@
-use Rattle.std.proofs.Common.{sym, ap, ◌∙◌, subst, ◌++◌, ◌∷◌, []}
-use Rattle.mix_engine.specs.contracts.engine.Engine.{the_view}
+use Rattle.std.proofs.Common.{◌≡◌, ◌∙◌, ◌+◌, List, [], ◌∷◌, ◌++◌, ap, arith, length, subst, sym, true}
+use Rattle.std.proofs.lemmas.List.{length-append}
 use Rattle.mix_model.specs.declared.action.Action.{Action}
-use Rattle.mix_engine.specs.Answers.{Agrees, answer_to}
+use Rattle.mix_model.specs.declared.action.Entry.{Entry}
+use Rattle.mix_engine.specs.contracts.engine.Engine.{the_view}
+use Rattle.mix_engine.specs.Answers.{Agrees, Replies, answer_to, due_after, state_after}
 use Rattle.mix_engine.specs.Engines.{EngineModel, has_room}
-use Rattle.mix_engine.proofs.EngineLemmas.{numbers_left, engine_longer, answer_agrees}
+use Rattle.mix_engine.specs.Mixer.{Mixer, start_of}
+use Rattle.mix_engine.specs.Replayed.{Replayed}
+use Rattle.mix_engine.proofs.Replays.{answers_agree, numbers_left, replays_more, room_fits, state_on}
 use Rattle.mix_engine.proofs.engine.Engine.act.Goals as goal
 
--- the next numbers can still be given
-pub act-requires : goal.act-requires
-act-requires c = record {
-  numbers = numbers_left (the_view c.self.inside) _ _ c.self.invariant.0 c.self.invariant.1
-      c.self.invariant.2;
-}
-
 -- one entry more keeps what ties the engine to its journal
-pub invariant_of-self-in-Ok-Some : goal.invariant_of-self-in-Ok-Some
-invariant_of-self-in-Ok-Some c = engine_longer (the_view c.self.inside) _ _ _
-    (record { from = c.args.from; action = c.args.action }) c.in-Ok-Some.spoken _ _
-    c.self.invariant.0 c.self.invariant.1 (rw c.in-Ok-Some.field-0-is at c.in-Ok-Some.ensures.reply)
-    c.in-Ok-Some.ensures.state c.in-Ok-Some.ensures.listeners
-    (record {
-      conns = c.in-Ok-Some.ensures.conns;
-      serials = c.in-Ok-Some.ensures.serials;
-      clock = c.in-Ok-Some.ensures.clock;
-      items = c.in-Ok-Some.ensures.items;
-    })
-    (ap (λ (e : EngineModel). has_room e c.args.action) c.self.view_is
+pub invariant_of-self-2 : goal.invariant_of-self-2
+invariant_of-self-2 c =
+    let e : EngineModel = the_view c.self.inside in
+    let room : has_room e c.args.action ≡ true =
+    ap (λ (e : EngineModel). has_room e c.args.action) c.self.view_is
     ∙ sym (c.has_room.ensures.value c.args.action c.line_length-line.ensures.value)
-    ∙ c.if-not-has_room.false)
-    c.line_length-line.ensures.value (c.push_reserved.ensures.items
+    ∙ c.if-not-has_room.false in
+    let fits = room_fits e c.args.action c.line_length-line.result room c.self.invariant.1
+    c.line_length-line.ensures.value in
+    let items : c.push_reserved.new.self.items
+    ≡ c.self.inside.journal.items ++ record { from = c.args.from; action = c.args.action } ∷ [] =
+    c.push_reserved.ensures.items
     ∙ ap (λ (a : Action). c.reserve.new.self.items ++ record { from = c.args.from; action = a } ∷ [])
     c.shelved-action.ensures.value
-    ∙ ap (λ l. l ++ record { from = c.args.from; action = c.args.action } ∷ [])
-    c.in-Ok.ensures.items)
+    ∙ ap (λ (l : List Entry). l ++ record { from = c.args.from; action = c.args.action } ∷ [])
+    c.in-Ok.ensures.items in
+    let longer : length c.push_reserved.new.self.items ≡ length c.self.inside.journal.items + 1 =
+    ap length items ∙ length-append c.self.inside.journal.items
+    (record { from = c.args.from; action = c.args.action } ∷ []) in (
+      subst (λ (l : List Entry). Replayed (start_of c.self.inside.setup.collection) l c.act.new.self
+          (c.self.inside.bytes + c.line_length-line.result)) (sym items)
+          (replays_more (start_of c.self.inside.setup.collection) c.self.inside.mixing c.act.new.self c.self.inside.journal.items
+          (record { from = c.args.from; action = c.args.action }) c.in-Ok-act.answer
+          c.self.inside.bytes c.self.invariant.0 c.has_shape.ensures.shape c.in-Ok-act.ensures.steps
+          (sym c.is_unbuilt.ensures.value ∙ c.if-is_unbuilt.false)
+          c.line_length-line.result c.requests_are_proper.ensures.proper
+          (numbers_left e c.self.inside.mixing c.self.inside.bytes c.self.invariant.0 c.self.invariant.1
+          c.self.invariant.2) fits.0),
+      c.self.invariant.1,
+      omega (arith, longer, fits.1),
+      omega (arith, c.self.invariant.0.bytes, fits.2),
+    )
 
 -- the answer agrees with that entry
-pub returns-in-Ok-Some-clause-reply : goal.returns-in-Ok-Some-clause-reply
-returns-in-Ok-Some-clause-reply c =
-    subst (λ (e : EngineModel). Agrees c.answer.result (answer_to e.start e.journal c.args.action))
-    c.self.view_is (answer_agrees (the_view c.self.inside) _ _ c.push_reserved.new.self.items
-    (record { from = c.args.from; action = c.args.action }) c.in-Ok-Some.spoken _
-    c.self.invariant.0 (rw c.in-Ok-Some.field-0-is at c.in-Ok-Some.ensures.reply)
-    c.in-Ok-Some.ensures.listeners (c.push_reserved.ensures.items
+pub returns-clause-reply : goal.returns-clause-reply
+returns-clause-reply c =
+    let start : Mixer = start_of c.self.inside.setup.collection in
+    let items : c.push_reserved.new.self.items
+    ≡ c.self.inside.journal.items ++ record { from = c.args.from; action = c.args.action } ∷ [] =
+    c.push_reserved.ensures.items
     ∙ ap (λ (a : Action). c.reserve.new.self.items ++ record { from = c.args.from; action = a } ∷ [])
     c.shelved-action.ensures.value
-    ∙ ap (λ l. l ++ record { from = c.args.from; action = c.args.action } ∷ [])
-    c.in-Ok.ensures.items)
-    c.answer.ensures.reply c.answer.ensures.stopping c.answer.ensures.dying)
+    ∙ ap (λ (l : List Entry). l ++ record { from = c.args.from; action = c.args.action } ∷ [])
+    c.in-Ok.ensures.items in
+    let same : state_after start c.push_reserved.new.self.items ≡ c.act.new.self.mixer =
+    ap (state_after start) items ∙ sym (state_on start c.self.inside.mixing c.act.new.self c.self.inside.journal.items
+    (record { from = c.args.from; action = c.args.action }) c.in-Ok-act.answer
+    c.self.inside.bytes c.self.invariant.0 c.has_shape.ensures.shape c.in-Ok-act.ensures.steps
+    (sym c.is_unbuilt.ensures.value ∙ c.if-is_unbuilt.false)) in
+    subst (λ (e : EngineModel). Agrees c.answer.result (answer_to e.start e.journal c.args.action))
+    c.self.view_is (answers_agree start c.self.inside.mixing c.act.new.self c.self.inside.journal.items
+    (record { from = c.args.from; action = c.args.action }) c.in-Ok-act.answer
+    c.self.inside.bytes c.self.invariant.0 c.has_shape.ensures.shape c.in-Ok-act.ensures.steps
+    (sym c.is_unbuilt.ensures.value ∙ c.if-is_unbuilt.false)
+    c.answer.result (λ found shown sounds. subst (λ (s : Mixer).
+    Replies c.in-Ok-act.answer.heading found c.in-Ok-act.answer.said.items
+    (due_after c.in-Ok-act.answer.heading s) c.answer.result.reply) same
+    (c.answer.ensures.reply found shown sounds))
+    (c.answer.ensures.stopping ∙ ap (λ (s : Mixer). s.notes.stop) same)
+    (c.answer.ensures.dying ∙ ap (λ (s : Mixer). length s.studio.graph.dying) same))

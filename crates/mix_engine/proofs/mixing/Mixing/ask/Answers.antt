@@ -1,69 +1,125 @@
-use Rattle.std.proofs.Common.{Some, refl, sym, subst, ◌∙◌}
-use Rattle.mix_model.specs.Opening.{no_notes}
-use Rattle.mix_engine.specs.Mixings.{Mixed}
-use Rattle.mix_engine.specs.Requests.{requested}
-use Rattle.mix_engine.specs.Spoken.{ItemsWithin}
-use Rattle.mix_engine.specs.Stills.{studio_of}
-use Rattle.mix_engine.proofs.AskingLemmas.{IsAsked, was_asked, asks, answered_left, answered_told}
-use Rattle.mix_engine.proofs.AskingLemmas.{done_sayable_as}
-use Rattle.mix_engine.proofs.MixingLemmas.{told_mixing, waited_sayable, taken_sayable}
-use Rattle.mix_engine.proofs.ComingLemmas.{speaks, leaves_after}
-use Rattle.mix_engine.proofs.MixingLemmas.{then_sayable}
+use Rattle.std.proofs.Common.{◌≡◌, ◌∙◌, ◌+◌, ◌≤◌, ◌++◌, Some, ap, arith, length, map, subst, sym}
+use Rattle.std.proofs.Math.Nat.{le-max_left}
+use Rattle.mix_audience.specs.Acting.{taken_by}
+use Rattle.mix_audience.specs.Listeners.{queued}
+use Rattle.mix_events.specs.declared.said.Said.TheVariants.{Event as OfEvent}
+use Rattle.mix_studio.specs.Studios.{StudioModel}
+use Rattle.mix_engine.specs.Mixings.{mixed_of}
+use Rattle.mix_engine.specs.Requests.{answers_by, most_named}
+use Rattle.mix_engine.proofs.AskLemmas.{asked_done, asked_left, asked_steps, pairs_few}
+use Rattle.mix_engine.proofs.Stepping.{left_mixing}
 use Rattle.mix_engine.proofs.mixing.Mixing.ask.Goals as goal
 
--- what it came to
-asked : (c : goal.After-end) → IsAsked
-    (requested (studio_of c.self.inside.still c.self.inside.graph.present) no_notes c.args.ask)
-    c.in-Ok-Some.done c.answer.new.twins.items
-asked c = was_asked _ _ _ _ c.in-Ok-Some.field-0-is c.in-Ok-Some.ensures.reply c.in-Ok-Some.ensures.tells
+-- the request tells no more events than there is room for
+pub tell-requires-clause-spare : goal.tell-requires-clause-spare
+tell-requires-clause-spare c =
+    let did = asked_done c.self.inside.studio.present c.self.inside.notes c.self.inside.audience
+    c.self.inside.next_conn c.args.self.now c.self.view_is c.self.invariant
+    c.requests_are_proper.ensures.proper c.requires.numbers c.args.conn c.args.ask
+    c.requires.is_there c.requires.id c.in-Ok-Some.done c.begin_changes.new.self
+    c.do_request-done.new.studio c.do_request-done.new.notes c.do_request-done.new.events
+    (ap (λ (k : StudioModel). k.present) c.begin_changes.ensures.state) c.in-Ok-Some.field-0
+    c.in-Ok-Some.field-0-is c.in-Ok-Some.ensures.does in
+    let few : c.into_twins-twins.result.len ≤ c.most_events-most.result = pairs_few c.into_twins-twins.result.items c.do_request-done.new.events
+    c.into_twins-twins.result.len c.most_events-most.result c.into_twins-twins.result.ok.0
+    c.into_twins-twins.ensures.value (subst (λ k. length c.do_request-done.new.events ≤ k)
+    (sym (c.most_events-most.ensures.value ∙ ap most_named c.named_by-request.ensures.value))
+    did.1.1.few) in
+    let spare = le-max_left c.most_events-most.result c.self.inside.audience.spare in
+    omega (arith, few, spare, c.in-Ok-reserve.ensures.spare)
 
--- its events can be said
+pub tell-requires-clause-room : goal.tell-requires-clause-room
+tell-requires-clause-room c =
+    let did = asked_done c.self.inside.studio.present c.self.inside.notes c.self.inside.audience
+    c.self.inside.next_conn c.args.self.now c.self.view_is c.self.invariant
+    c.requests_are_proper.ensures.proper c.requires.numbers c.args.conn c.args.ask
+    c.requires.is_there c.requires.id c.in-Ok-Some.done c.begin_changes.new.self
+    c.do_request-done.new.studio c.do_request-done.new.notes c.do_request-done.new.events
+    (ap (λ (k : StudioModel). k.present) c.begin_changes.ensures.state) c.in-Ok-Some.field-0
+    c.in-Ok-Some.field-0-is c.in-Ok-Some.ensures.does in
+    let few : c.into_twins-twins.result.len ≤ c.most_events-most.result = pairs_few c.into_twins-twins.result.items c.do_request-done.new.events
+    c.into_twins-twins.result.len c.most_events-most.result c.into_twins-twins.result.ok.0
+    c.into_twins-twins.ensures.value (subst (λ k. length c.do_request-done.new.events ≤ k)
+    (sym (c.most_events-most.ensures.value ∙ ap most_named c.named_by-request.ensures.value))
+    did.1.1.few) in
+    let room : c.in-Ok.said.len + (c.most_events-most.result + 1) ≤ c.in-Ok.said.cap =
+    c.in-Ok.ensures.room in
+    omega (arith, few, room)
+
+-- and there is room for its answer behind them
+pub push_reserved-requires : goal.push_reserved-requires
+push_reserved-requires c =
+    let did = asked_done c.self.inside.studio.present c.self.inside.notes c.self.inside.audience
+    c.self.inside.next_conn c.args.self.now c.self.view_is c.self.invariant
+    c.requests_are_proper.ensures.proper c.requires.numbers c.args.conn c.args.ask
+    c.requires.is_there c.requires.id c.in-Ok-Some.done c.begin_changes.new.self
+    c.do_request-done.new.studio c.do_request-done.new.notes c.do_request-done.new.events
+    (ap (λ (k : StudioModel). k.present) c.begin_changes.ensures.state) c.in-Ok-Some.field-0
+    c.in-Ok-Some.field-0-is c.in-Ok-Some.ensures.does in
+    let few : c.into_twins-twins.result.len ≤ c.most_events-most.result = pairs_few c.into_twins-twins.result.items c.do_request-done.new.events
+    c.into_twins-twins.result.len c.most_events-most.result c.into_twins-twins.result.ok.0
+    c.into_twins-twins.ensures.value (subst (λ k. length c.do_request-done.new.events ≤ k)
+    (sym (c.most_events-most.ensures.value ∙ ap most_named c.named_by-request.ensures.value))
+    did.1.1.few) in
+    let room : c.in-Ok.said.len + (c.most_events-most.result + 1) ≤ c.in-Ok.said.cap =
+    c.in-Ok.ensures.room in
+    let told : c.tell.new.said.len ≤ c.in-Ok.said.len + c.into_twins-twins.result.len =
+    c.tell.ensures.room in
+    let same : c.tell.new.said.cap ≡ c.in-Ok.said.cap = c.tell.ensures.capacity in
+    omega (arith, few, room, told, same)
+
+-- what is left is what the line leaves
 pub invariant_of-self-in-Ok-Some : goal.invariant_of-self-in-Ok-Some
 invariant_of-self-in-Ok-Some c =
-    told_mixing _ _ _ c.self.inside.audience.listeners _ c.self.invariant _ _
-    (Some c.args.conn) _ _ _ _ c.in-Ok-Some.ensures.scenes c.in-Ok-Some.ensures.program
-    c.in-Ok-Some.ensures.shape c.in-Ok-Some.ensures.clock (asked c).tells.sayable
-    c.in-Ok-reserve.ensures.listeners c.tell.ensures.listeners c.end.ensures.listeners
-
--- it is told what waits for it, the events that it takes, and its answer
-pub returns-in-Ok-Some-clause-reply : goal.returns-in-Ok-Some-clause-reply
-returns-in-Ok-Some-clause-reply c =
-    speaks c.args.self.now.listeners c.args.self.now.mixer.studio _ _ _
-    (asks _ _ _ _ _ _ c.self.view_is c.args.ask c.args.conn (asked c).all (asked c).asked_is)
-    (record {
-      own = refl;
-      said = answered_told _ _ _ _ _ _ c.self.view_is c.args.ask c.in-Ok-Some.done _ (asked c)
-          c.self.invariant.listeners_are c.args.conn _ _ _ _ c.in-Ok-reserve.ensures.listeners
-          c.in-Ok.ensures.said c.tell.ensures.said c.push_reserved.ensures.items;
-      shot = refl;
-    })
-
--- what the request leaves
-pub returns-in-Ok-Some-clause-state : goal.returns-in-Ok-Some-clause-state
-returns-in-Ok-Some-clause-state c =
-    leaves_after c.args.self.now _ _ _
-    (asks _ _ _ _ _ _ c.self.view_is c.args.ask c.args.conn (asked c).all (asked c).asked_is)
-    (answered_left _ _ _ _ _ _ c.self.view_is c.args.ask c.in-Ok-Some.done _ (asked c)
-    c.self.invariant.listeners_are c.answer.new.still c.answer.new.graph.present c.end.new.self
-    c.args.conn _ _
-    c.in-Ok-Some.ensures.state
+    let did = asked_done c.self.inside.studio.present c.self.inside.notes c.self.inside.audience
+    c.self.inside.next_conn c.args.self.now c.self.view_is c.self.invariant
+    c.requests_are_proper.ensures.proper c.requires.numbers c.args.conn c.args.ask
+    c.requires.is_there c.requires.id c.in-Ok-Some.done c.begin_changes.new.self
+    c.do_request-done.new.studio c.do_request-done.new.notes c.do_request-done.new.events
+    (ap (λ (k : StudioModel). k.present) c.begin_changes.ensures.state) c.in-Ok-Some.field-0
+    c.in-Ok-Some.field-0-is c.in-Ok-Some.ensures.does in
+    left_mixing c.self.inside.studio.present c.self.inside.notes c.self.inside.audience
+    c.self.inside.next_conn c.args.self.now c.self.view_is c.self.invariant
+    (answers_by c.args.self.now.mixer c.args.conn c.args.ask (Some did.0))
+    (mixed_of c.do_request-done.new.studio.present c.do_request-done.new.notes c.end.new.self
+    c.self.inside.next_conn) (did.1.1.fit c.in-Ok-Some.ensures.shape)
+    (asked_left c.self.inside.studio.present c.self.inside.notes c.self.inside.audience
+    c.self.inside.next_conn c.args.self.now c.self.view_is c.self.invariant c.args.conn c.args.ask
+    did.0 c.in-Ok-Some.done c.do_request-done.new.studio.present c.do_request-done.new.notes
+    c.do_request-done.new.events did.1.1 c.in-Ok-Some.ensures.shape c.reserve.new.self.listeners
+    c.tell.new.self.listeners c.end.new.self
     (c.end.ensures.secret ∙ c.tell.ensures.secret ∙ c.in-Ok-reserve.ensures.secret)
-    c.in-Ok-reserve.ensures.listeners c.tell.ensures.listeners c.end.ensures.listeners)
+    c.in-Ok-reserve.ensures.listeners
+    (c.tell.ensures.listeners ∙ ap (λ events. map (queued (Some c.args.conn) events)
+    c.reserve.new.self.listeners) c.into_twins-twins.ensures.value) c.end.ensures.listeners)
 
--- all of it can be said
-pub returns-in-Ok-Some-clause-said : goal.returns-in-Ok-Some-clause-said
-returns-in-Ok-Some-clause-said c =
-    record {
-      own = tt;
-      shot = tt;
-      sayable = then_sayable _ _ _ (taken_sayable c.args.conn _ _ _ _ (asked c).tells.sayable
-          (waited_sayable c.self.inside.next_conn c.args.conn c.self.inside.audience.listeners _
-          c.self.invariant.listeners_are c.in-Ok.ensures.said) c.tell.ensures.said)
-          (done_sayable_as _ _ c.args.ask c.in-Ok-Some.done _ c.requires.id (asked c))
-          c.push_reserved.ensures.items;
+-- and what is told are the events that the connection takes, and its answer
+pub returns-in-Ok-Some : goal.returns-in-Ok-Some
+returns-in-Ok-Some c = let did = asked_done c.self.inside.studio.present c.self.inside.notes c.self.inside.audience
+    c.self.inside.next_conn c.args.self.now c.self.view_is c.self.invariant
+    c.requests_are_proper.ensures.proper c.requires.numbers c.args.conn c.args.ask
+    c.requires.is_there c.requires.id c.in-Ok-Some.done c.begin_changes.new.self
+    c.do_request-done.new.studio c.do_request-done.new.notes c.do_request-done.new.events
+    (ap (λ (k : StudioModel). k.present) c.begin_changes.ensures.state) c.in-Ok-Some.field-0
+    c.in-Ok-Some.field-0-is c.in-Ok-Some.ensures.does in record {
+      steps = asked_steps c.self.inside.studio.present c.self.inside.notes c.self.inside.audience
+          c.self.inside.next_conn c.args.self.now c.self.view_is c.self.invariant c.args.conn
+          c.args.ask did.0 c.in-Ok-Some.done c.do_request-done.new.studio.present
+          c.do_request-done.new.notes c.do_request-done.new.events did.1.1 did.1.0 c.saying.result
+          (mixed_of c.do_request-done.new.studio.present c.do_request-done.new.notes c.end.new.self
+          c.self.inside.next_conn) c.in-Ok.said.items c.tell.new.said.items
+          c.reserve.new.self.listeners c.saying.ensures.heading c.in-Ok-reserve.ensures.listeners
+          c.in-Ok.ensures.said
+          (c.tell.ensures.said ∙ ap (λ events. c.in-Ok.said.items ++ map OfEvent
+          (taken_by c.args.conn c.reserve.new.self.listeners events)) c.into_twins-twins.ensures.value)
+          (c.saying.ensures.said ∙ c.push_reserved.ensures.items) c.saying.ensures.shot
+          c.saying.ensures.voices (asked_left c.self.inside.studio.present c.self.inside.notes c.self.inside.audience
+          c.self.inside.next_conn c.args.self.now c.self.view_is c.self.invariant c.args.conn c.args.ask
+          did.0 c.in-Ok-Some.done c.do_request-done.new.studio.present c.do_request-done.new.notes
+          c.do_request-done.new.events did.1.1 c.in-Ok-Some.ensures.shape c.reserve.new.self.listeners
+          c.tell.new.self.listeners c.end.new.self
+          (c.end.ensures.secret ∙ c.tell.ensures.secret ∙ c.in-Ok-reserve.ensures.secret)
+          c.in-Ok-reserve.ensures.listeners
+          (c.tell.ensures.listeners ∙ ap (λ events. map (queued (Some c.args.conn) events)
+          c.reserve.new.self.listeners) c.into_twins-twins.ensures.value) c.end.ensures.listeners);
     }
-
--- the next ids of items
-pub returns-in-Ok-Some-clause-items : goal.returns-in-Ok-Some-clause-items
-returns-in-Ok-Some-clause-items c = λ n within. c.in-Ok-Some.ensures.items n
-    (subst (λ (m : Mixed). ItemsWithin n m.mixer.studio.graph) (sym c.self.view_is) within)

@@ -1,37 +1,38 @@
-use Rattle.std.proofs.Common.{Some, refl, ◌∙◌}
-use Rattle.mix_engine.specs.declared.own.Own.TheVariants.{Closed}
-use Rattle.mix_engine.proofs.MixingLemmas.{others_mixing, others_left, waits_view, waited_sayable}
-use Rattle.mix_engine.specs.Outcomes.{closes}
+use Rattle.std.proofs.Common.{◌∙◌, refl, subst}
+use Rattle.mix_engine.specs.declared.heading.Heading.TheVariants as heading
+use Rattle.mix_engine.specs.Mixings.{IsMixing, mixed_of}
+use Rattle.mix_engine.proofs.Leavers.{gone_left, gone_mixing}
+use Rattle.mix_engine.proofs.Stepping.{closing_steps}
 use Rattle.mix_engine.proofs.mixing.Mixing.close.Goals as goal
 
--- the others are open still
+-- the connection is gone, with what it held and watched
 pub invariant_of-self : goal.invariant_of-self
-invariant_of-self c = others_mixing _ _ _ c.self.inside.audience.listeners _ c.self.invariant
-    (Some c.args.conn) c.args.conn _ _ c.leave.ensures.listeners c.end.ensures.listeners
-
--- it is told what waits for it
-pub returns-clause-reply : goal.returns-clause-reply
-returns-clause-reply c = record {
-  own = refl;
-  said = waits_view _ _ _ _ _ _ c.self.view_is c.args.conn
-      (closes c.args.self.now.mixer c.args.conn c.args.code) _ refl refl
-      c.in_ok-said.ensures.said;
-  shot = refl;
-}
-
--- and nobody else is there
-pub returns-clause-state : goal.returns-clause-state
-returns-clause-state c = others_left _ _ _ _ _ _ c.self.view_is c.end.new.self
-    (Closed c.args.conn c.args.code) c.args.conn _
+invariant_of-self c = gone_mixing c.args.self.now
+    (subst IsMixing c.self.view_is c.self.invariant) c.args.conn
+    (heading.Closed c.args.conn c.args.code) c.let_go.new.self
+    (mixed_of c.self-2.inside.studio.present c.self-2.inside.notes c.end.new.self
+    c.self-2.inside.next_conn) c.in-Ok.ensures.ok
+    (subst IsMixing c.self-2.view_is c.self-2.invariant)
+    (gone_left c.args.self.now (subst IsMixing c.self.view_is c.self.invariant) c.args.conn (heading.Closed c.args.conn c.args.code)
+    c.self-2.inside.studio.present c.self-2.inside.notes c.self-2.inside.audience
+    c.self-2.inside.next_conn c.leave.new.self.listeners c.end.new.self
+    (c.self-2.view_is ∙ c.in-Ok.ensures.ok) c.self-2.invariant refl
     (c.end.ensures.secret ∙ c.leave.ensures.secret) c.leave.ensures.listeners
-    c.end.ensures.listeners
+    c.end.ensures.listeners)
 
--- what waits can be said
-pub returns-clause-said : goal.returns-clause-said
-returns-clause-said c = record {
-  own = tt;
-  shot = tt;
-  sayable = waited_sayable c.self.inside.next_conn c.args.conn
-      c.self.inside.audience.listeners _ c.self.invariant.listeners_are
-      c.in_ok-said.ensures.said;
+-- and is told what waited for it
+pub returns : goal.returns
+returns c = record {
+  steps = closing_steps c.self.inside.studio.present c.self.inside.notes
+      c.self.inside.audience c.self.inside.next_conn c.args.self.now c.self.view_is c.self.invariant
+      c.args.conn c.args.code c.saying.result (mixed_of c.self-2.inside.studio.present
+      c.self-2.inside.notes c.end.new.self c.self-2.inside.next_conn) c.saying.ensures.heading
+      (c.saying.ensures.said ∙ c.in_ok-said.ensures.said) c.saying.ensures.shot
+      c.saying.ensures.voices
+      (gone_left c.args.self.now (subst IsMixing c.self.view_is c.self.invariant) c.args.conn (heading.Closed c.args.conn c.args.code)
+      c.self-2.inside.studio.present c.self-2.inside.notes c.self-2.inside.audience
+      c.self-2.inside.next_conn c.leave.new.self.listeners c.end.new.self
+      (c.self-2.view_is ∙ c.in-Ok.ensures.ok) c.self-2.invariant refl
+      (c.end.ensures.secret ∙ c.leave.ensures.secret) c.leave.ensures.listeners
+      c.end.ensures.listeners);
 }

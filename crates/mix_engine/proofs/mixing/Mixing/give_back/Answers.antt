@@ -1,60 +1,59 @@
-use Rattle.std.proofs.Common.{true, false, refl, ap, sym, subst, ◌∙◌}
-use Rattle.mix_model.specs.State.{GraphState}
-use Rattle.mix_engine.specs.declared.own.Own.TheVariants.{NoSuchFrame}
-use Rattle.mix_engine.specs.Mixings.{Mixed}
-use Rattle.mix_engine.specs.Spoken.{ItemsWithin}
-use Rattle.mix_engine.proofs.ComingLemmas.{leaves_after}
-use Rattle.mix_engine.proofs.TickLemmas.{unframed_mixing, unframed_left, gives, gives_none}
-use Rattle.mix_engine.proofs.TickLemmas.{ended_mixing, given_left, flight_view}
-use Rattle.mix_engine.proofs.TickLemmas.{ended_next, ended_clock, ended_items}
+use Rattle.std.proofs.Common.{◌∙◌, true, false, ap, refl}
+use Rattle.mix_studio.specs.Studios.{StudioModel}
+use Rattle.mix_engine.specs.Mixings.{mixed_of}
+use Rattle.mix_engine.proofs.FrameLemmas.{begun_present, given_all, given_left, given_mixing}
+use Rattle.mix_engine.proofs.FrameLemmas.{given_steps, in_flight, not_given, stays, stays_mixing}
 use Rattle.mix_engine.proofs.mixing.Mixing.give_back.Goals as goal
 
 -- no frame of this number is in flight
 pub invariant_of-self : goal.invariant_of-self
-invariant_of-self c = unframed_mixing _ c.self.inside.graph.present _
-    c.self.inside.audience.listeners _ c.self.invariant _ _
-    (c.end_frame.ensures.same c.if-not-end_frame.true) c.end.ensures.listeners
+invariant_of-self c = stays_mixing c.self.inside.studio.present c.self.inside.notes
+    c.self.inside.audience c.self.inside.next_conn c.frame_done.new.self.present
+    c.self.inside.audience
+    (ap (λ (k : StudioModel). k.present) (c.frame_done.ensures.err c.if-not-frame_done.true)
+    ∙ begun_present c.self.inside.studio c.begin_changes.new.self c.begin_changes.ensures.state)
+    refl refl c.self.invariant
 
-pub returns-then-not-end_frame-clause-state : goal.returns-then-not-end_frame-clause-state
-returns-then-not-end_frame-clause-state c = leaves_after c.args.self.now _ _ _
-    (gives_none c.args.self.now.mixer c.args.number
-    (flight_view _ _ _ _ _ _ c.self.view_is c.args.number false
-    (sym c.end_frame.ensures.found ∙ c.if-not-end_frame.true)))
-    (unframed_left _ _ _ _ _ _ c.self.view_is c.end.new.self _ NoSuchFrame refl
-    (c.end_frame.ensures.same c.if-not-end_frame.true) c.end.ensures.secret
-    c.end.ensures.listeners)
+pub returns-then-not-frame_done : goal.returns-then-not-frame_done
+returns-then-not-frame_done c = record {
+  steps = not_given c.args.self.now (mixed_of c.frame_done.new.self.present c.self.inside.notes
+      c.self.inside.audience c.self.inside.next_conn) c.rest.new.self c.args.number
+      c.rest.result
+      (stays c.self.inside.studio.present c.self.inside.notes c.self.inside.audience
+      c.self.inside.next_conn c.frame_done.new.self.present c.self.inside.audience
+      (ap (λ (k : StudioModel). k.present) (c.frame_done.ensures.err c.if-not-frame_done.true)
+      ∙ begun_present c.self.inside.studio c.begin_changes.new.self c.begin_changes.ensures.state)
+      refl refl c.args.self.now c.self.view_is)
+      (in_flight c.self.inside.studio c.self.inside.notes c.self.inside.audience
+      c.self.inside.next_conn c.args.self.now c.self.view_is c.self.invariant
+      c.begin_changes.new.self c.begin_changes.ensures.state c.args.number c.frame_done.result
+      false c.frame_done.ensures.reply c.if-not-frame_done.true)
+      c.rest.ensures.steps;
+}
 
 -- one is given back
 pub invariant_of-self-2 : goal.invariant_of-self-2
-invariant_of-self-2 c = ended_mixing _ c.self.inside.graph.present _
-    c.self.inside.audience.listeners _ c.self.invariant _ c.args.number _
-    (c.end_frame.ensures.ended c.if-not-end_frame.false) c.end_frame.ensures.shape
-    c.end-2.ensures.listeners
+invariant_of-self-2 c = given_mixing c.self.inside.studio c.self.inside.notes
+    c.self.inside.audience c.self.inside.next_conn c.args.self.now c.self.view_is c.self.invariant
+    c.begin_changes.new.self c.begin_changes.ensures.state c.args.number c.frame_done.new.self
+    (c.frame_done.ensures.ok c.if-not-frame_done.false) c.frame_done.ensures.shape
+    c.end.new.self c.end.ensures.secret c.end.ensures.listeners
 
-pub returns-clause-state : goal.returns-clause-state
-returns-clause-state c = leaves_after c.args.self.now _ _ _
-    (gives c.args.self.now.mixer c.args.number
-    (flight_view _ _ _ _ _ _ c.self.view_is c.args.number true
-    (sym c.end_frame.ensures.found ∙ c.if-not-end_frame.false)))
-    (given_left _ _ _ _ _ _ c.self.view_is c.end-2.new.self _ c.args.number
-    c.self.invariant.listeners_are (c.end_frame.ensures.ended c.if-not-end_frame.false)
-    c.end-2.ensures.secret c.end-2.ensures.listeners)
-
--- the numbers stay
-pub returns-clause-serials : goal.returns-clause-serials
-returns-clause-serials c =
-    ap (λ (g : GraphState). g.next_serial) (c.end_frame.ensures.ended c.if-not-end_frame.false)
-    ∙ ended_next c.args.number c.self.inside.graph.present
-    ∙ ap (λ (m : Mixed). m.mixer.studio.graph.next_serial) c.self.view_is
-
-pub returns-clause-clock : goal.returns-clause-clock
-returns-clause-clock c =
-    ap (λ (g : GraphState). g.clock) (c.end_frame.ensures.ended c.if-not-end_frame.false)
-    ∙ ended_clock c.args.number c.self.inside.graph.present
-    ∙ ap (λ (m : Mixed). m.mixer.studio.graph.clock) c.self.view_is
-
-pub returns-clause-items : goal.returns-clause-items
-returns-clause-items c = λ n within. subst (ItemsWithin n)
-    (sym (c.end_frame.ensures.ended c.if-not-end_frame.false))
-    (ended_items c.args.number c.self.inside.graph.present n
-    (subst (λ (m : Mixed). ItemsWithin n m.mixer.studio.graph) (sym c.self.view_is) within))
+pub returns : goal.returns
+returns c = record {
+  steps = given_all c.args.self.now (mixed_of c.frame_done.new.self.present c.self.inside.notes
+      c.end.new.self c.self.inside.next_conn) c.args.number c.silent.result
+      (in_flight c.self.inside.studio c.self.inside.notes c.self.inside.audience
+      c.self.inside.next_conn c.args.self.now c.self.view_is c.self.invariant
+      c.begin_changes.new.self c.begin_changes.ensures.state c.args.number c.frame_done.result
+      true c.frame_done.ensures.reply c.if-not-frame_done.false)
+      (given_steps c.args.self.now c.args.number c.silent.result
+      (mixed_of c.frame_done.new.self.present c.self.inside.notes c.end.new.self
+      c.self.inside.next_conn) c.silent.ensures.heading c.silent.ensures.said
+      c.silent.ensures.shot c.silent.ensures.voices
+      (given_left c.self.inside.studio c.self.inside.notes
+      c.self.inside.audience c.self.inside.next_conn c.args.self.now c.self.view_is
+      c.self.invariant c.begin_changes.new.self c.begin_changes.ensures.state c.args.number
+      c.frame_done.new.self (c.frame_done.ensures.ok c.if-not-frame_done.false)
+      c.frame_done.ensures.shape c.end.new.self c.end.ensures.secret c.end.ensures.listeners));
+}

@@ -1,31 +1,46 @@
-use Rattle.std.proofs.Common.{Some, sym, ◌∙◌}
-use Rattle.mix_engine.proofs.ComingLemmas.{says, leaves_after}
-use Rattle.mix_engine.proofs.MixingLemmas.{masked_mixing, identified_left}
-use Rattle.mix_engine.proofs.MixingLemmas.{waited_sayable, then_sayable}
+use Rattle.std.proofs.Common.{[], ◌∷◌, ◌++◌, ◌∙◌, ap, cond, refl, subst, sym}
+use Rattle.mix_engine.specs.Mixings.{mixed_of}
+use Rattle.mix_engine.specs.Outcomes.{identifies, unbuilt}
+use Rattle.mix_engine.specs.StepAnswers.{Stepped}
+use Rattle.mix_engine.proofs.Listening.{then_sayable, waited_sayable}
+use Rattle.mix_engine.proofs.Stepping.{identified_fit, identified_left, left_mixing, tells}
 use Rattle.mix_engine.proofs.mixing.Mixing.say.Goals as goal
 
--- it is deaf to activity
+-- it wants other events from now on
 pub invariant_of-self : goal.invariant_of-self
-invariant_of-self c = masked_mixing _ _ _ c.self.inside.audience.listeners _ c.self.invariant
-    (Some c.args.conn) c.args.conn c.args.mask _ _ (sym c.if-not-is_deaf.ensures.value)
-    c.identify.ensures.listeners c.end.ensures.listeners
+invariant_of-self c = left_mixing c.self.inside.studio.present c.self.inside.notes
+    c.self.inside.audience c.self.inside.next_conn c.args.self.now c.self.view_is c.self.invariant
+    (identifies c.args.self.now.mixer c.args.conn c.args.mask c.args.said) _
+    (identified_fit c.self.inside.studio.present c.self.inside.notes
+    c.self.inside.audience c.self.inside.next_conn c.args.self.now c.self.view_is c.self.invariant
+    c.args.conn c.args.mask c.args.said (sym c.if-not-is_deaf.ensures.value))
+    (identified_left c.self.inside.studio.present c.self.inside.notes
+    c.self.inside.audience c.self.inside.next_conn c.args.self.now c.self.view_is c.self.invariant
+    c.args.conn c.args.mask c.args.said _ c.end.new.self (sym c.if-not-is_deaf.ensures.value)
+    (c.end.ensures.secret ∙ c.identify.ensures.secret) c.identify.ensures.listeners
+    c.end.ensures.listeners)
 
--- and is identified
-pub returns-clause-state : goal.returns-clause-state
-returns-clause-state c = leaves_after c.args.self.now _ _ _
-    (says c.args.self.now.mixer c.args.conn c.args.said c.args.mask
-    (sym c.if-not-is_deaf.ensures.value))
-    (identified_left _ _ _ _ _ _ c.self.view_is c.end.new.self c.args.conn c.args.mask
-    c.args.said _ (c.end.ensures.secret ∙ c.identify.ensures.secret)
-    c.identify.ensures.listeners c.end.ensures.listeners)
-
--- what waited for it can be said, and what is said
-pub returns-clause-said : goal.returns-clause-said
-returns-clause-said c = record {
-  own = tt;
-  shot = tt;
-  sayable = then_sayable c.in-Ok.all.items _ c.args.said
-      (waited_sayable c.self.inside.next_conn c.args.conn c.self.inside.audience.listeners _
-      c.self.invariant.listeners_are c.in-Ok.ensures.said)
-      c.requires.said c.push_reserved.ensures.items;
+-- it is told what waits for it, and what is said
+pub returns : goal.returns
+returns c = record {
+  steps = subst (λ b. Stepped c.args.self.now (mixed_of c.self.inside.studio.present
+      c.self.inside.notes c.end.new.self c.self.inside.next_conn) c.saying.result (cond b
+      (identifies c.args.self.now.mixer c.args.conn c.args.mask c.args.said)
+      (unbuilt c.args.self.now.mixer))) c.if-not-is_deaf.ensures.value
+      (tells c.self.inside.studio.present c.self.inside.notes
+      c.self.inside.audience c.self.inside.next_conn c.args.self.now c.self.view_is c.self.invariant
+      (identifies c.args.self.now.mixer c.args.conn c.args.mask c.args.said) c.args.conn
+      c.saying.result _ refl refl c.saying.ensures.heading
+      (c.saying.ensures.said ∙ c.push_reserved.ensures.items
+      ∙ ap (λ l. l ++ c.args.said ∷ []) c.in-Ok.ensures.said)
+      (then_sayable c.in-Ok.all.items _ c.args.said
+      (waited_sayable c.args.conn c.self.inside.audience.listeners _ c.self.invariant.listeners
+      c.in-Ok.ensures.said) c.requires.said
+      (c.saying.ensures.said ∙ c.push_reserved.ensures.items))
+      c.saying.ensures.shot c.saying.ensures.voices
+      (identified_left c.self.inside.studio.present c.self.inside.notes
+      c.self.inside.audience c.self.inside.next_conn c.args.self.now c.self.view_is c.self.invariant
+      c.args.conn c.args.mask c.args.said _ c.end.new.self (sym c.if-not-is_deaf.ensures.value)
+      (c.end.ensures.secret ∙ c.identify.ensures.secret) c.identify.ensures.listeners
+      c.end.ensures.listeners));
 }

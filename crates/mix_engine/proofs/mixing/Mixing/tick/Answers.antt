@@ -1,61 +1,86 @@
-use Rattle.std.proofs.Common.{◌≡◌, ◌+◌, None, [], true, false, refl, ap, sym, subst, arith, ◌∙◌}
-use Rattle.std.proofs.lemmas.Bool.{lt-ltb, le-ltb}
-use Rattle.mix_model.specs.State.{GraphState}
-use Rattle.mix_engine.specs.declared.own.Own.TheVariants.{NoFrame}
-use Rattle.mix_engine.specs.Mixings.{Mixed}
-use Rattle.mix_engine.specs.Spoken.{ItemsWithin}
-use Rattle.mix_engine.proofs.ComingLemmas.{leaves_after}
-use Rattle.mix_engine.proofs.MixingLemmas.{only_left, rests_mixing}
-use Rattle.mix_engine.proofs.TickLemmas.{taken, taken_number, taken_mixing, taken_left}
-use Rattle.mix_engine.proofs.TickLemmas.{taken_next, taken_clock, taken_items}
-use Rattle.mix_engine.proofs.TickLemmas.{ticks, ticks_full, room_view}
+use Rattle.std.proofs.Common.{◌∙◌, false, cond, [], map, None, ap, refl, arith}
+use Rattle.std.proofs.Math.Nat.{le-max_left}
+use Rattle.mix_audience.specs.Listeners.{queued}
+use Rattle.mix_model.specs.declared.event.Event.TheVariants.{SceneTransitionEnded}
+use Rattle.mix_model.specs.declared.words.Transition.TheVariants.{Fade}
+use Rattle.mix_engine.specs.Mixings.{mixed_of}
+use Rattle.mix_engine.proofs.FrameLemmas.{clock_free, few_told, full_begun, not_taken, room_is}
+use Rattle.mix_engine.proofs.FrameLemmas.{stays, stays_mixing, taken_all, taken_mixing}
 use Rattle.mix_engine.proofs.mixing.Mixing.tick.Goals as goal
 
--- too many frames are in flight
-pub invariant_of-self : goal.invariant_of-self
-invariant_of-self c = rests_mixing _ _ _ c.self.inside.audience.listeners _ c.self.invariant
-    None _ c.end.ensures.listeners
+-- the clock can go on
+pub video_tick-requires-clause-clock : goal.video_tick-requires-clause-clock
+video_tick-requires-clause-clock c = clock_free c.self.inside.studio c.self.inside.notes
+    c.self.inside.audience c.self.inside.next_conn c.args.self.now c.self.view_is c.self.invariant
+    c.begin_changes.new.self c.begin_changes.ensures.state c.requires.numbers
 
-pub returns-then-frames-ge-MOST_FRAMES-clause-state :
-    goal.returns-then-frames-ge-MOST_FRAMES-clause-state
-returns-then-frames-ge-MOST_FRAMES-clause-state c = leaves_after c.args.self.now _ _ _
-    (ticks_full c.args.self.now.mixer
-    (room_view _ _ _ _ _ _ c.self.view_is false (le-ltb _ _ (omega arith))))
-    (only_left _ _ _ _ _ _ c.self.view_is c.end.new.self NoFrame [] c.end.ensures.secret
-    c.end.ensures.listeners)
+-- there is no room for one frame more
+pub invariant_of-self-in-Ok-NoFrame : goal.invariant_of-self-in-Ok-NoFrame
+invariant_of-self-in-Ok-NoFrame c = stays_mixing c.self.inside.studio.present c.self.inside.notes
+    c.self.inside.audience c.self.inside.next_conn c.video_tick.new.self.present c.reserve.new.self
+    (full_begun c.self.inside.studio c.begin_changes.new.self c.begin_changes.ensures.state
+    c.video_tick.new.self (rw c.in-Ok-NoFrame.field-0-is at c.in-Ok-NoFrame.ensures.reply)
+    c.in-Ok-NoFrame.ensures.state)
+    c.reserve.ensures.secret c.reserve.ensures.listeners c.self.invariant
 
--- a frame is taken under the clock's number
-held : (c : goal.After-new) → c.take_frame.new.graph.present ≡ taken c.self.inside.graph.present
-held c = taken_number _ _ _ c.self.invariant.clock_is c.in-Ok.ensures.ok
+pub returns-in-Ok-NoFrame : goal.returns-in-Ok-NoFrame
+returns-in-Ok-NoFrame c = record {
+  steps = not_taken c.args.self.now (mixed_of c.video_tick.new.self.present c.self.inside.notes
+      c.reserve.new.self c.self.inside.next_conn) c.rest.new.self c.rest.result
+      (stays c.self.inside.studio.present c.self.inside.notes
+      c.self.inside.audience c.self.inside.next_conn c.video_tick.new.self.present
+      c.reserve.new.self
+      (full_begun c.self.inside.studio c.begin_changes.new.self c.begin_changes.ensures.state
+      c.video_tick.new.self (rw c.in-Ok-NoFrame.field-0-is at c.in-Ok-NoFrame.ensures.reply)
+      c.in-Ok-NoFrame.ensures.state)
+      c.reserve.ensures.secret c.reserve.ensures.listeners c.args.self.now c.self.view_is)
+      (room_is c.self.inside.studio c.self.inside.notes
+      c.self.inside.audience c.self.inside.next_conn c.args.self.now c.self.view_is
+      c.self.invariant c.begin_changes.new.self c.begin_changes.ensures.state false
+      (rw c.in-Ok-NoFrame.field-0-is at c.in-Ok-NoFrame.ensures.reply))
+      c.rest.ensures.steps;
+}
 
-pub invariant_of-self-2 : goal.invariant_of-self-2
-invariant_of-self-2 c = taken_mixing _ c.self.inside.graph.present c.self.inside.clock
-    c.self.inside.audience.listeners _ c.self.invariant _ _ _ (held c)
-    c.take_frame.ensures.shape refl c.end-2.ensures.listeners
+-- one event is told at most
+pub tell_all-requires : goal.tell_all-requires
+tell_all-requires c =
+    let few = few_told c.into_twins.result.items c.in-Ok-Frame.ended
+    (SceneTransitionEnded Fade) (c.into_twins.ensures.value ∙ c.keep_if.ensures.value
+    ∙ ap (λ es. cond c.in-Ok-Frame.ended es []) c.in_ok-events.ensures.value) in
+    let least = le-max_left 1 c.self.inside.audience.spare in
+    record { spare = omega (arith, few, least, c.into_twins.result.ok.0, c.in_ok-reserve.ensures.spare) }
 
-pub returns-clause-state : goal.returns-clause-state
-returns-clause-state c = leaves_after c.args.self.now _ _ _
-    (ticks c.args.self.now.mixer
-    (room_view _ _ _ _ _ _ c.self.view_is true (lt-ltb _ _ (omega arith))))
-    (taken_left _ _ _ _ _ _ c.self.view_is c.end-2.new.self _ c.self.invariant.shape
-    (lt-ltb _ _ (omega arith)) c.self.invariant.listeners_are (held c)
-    c.end-2.ensures.secret c.end-2.ensures.listeners)
+-- it is taken
+pub invariant_of-self-in-Ok-Frame : goal.invariant_of-self-in-Ok-Frame
+invariant_of-self-in-Ok-Frame c = taken_mixing c.self.inside.studio c.self.inside.notes
+    c.self.inside.audience c.self.inside.next_conn c.args.self.now c.self.view_is c.self.invariant
+    c.begin_changes.new.self c.begin_changes.ensures.state c.video_tick.new.self
+    c.in-Ok-Frame.number c.in-Ok-Frame.shot c.in-Ok-Frame.recording c.in-Ok-Frame.ended
+    (rw c.in-Ok-Frame.field-0-is at c.in-Ok-Frame.ensures.reply) c.in-Ok-Frame.ensures.state
+    c.video_tick.ensures.shape c.keep_if.new.events
+    (c.keep_if.ensures.value
+    ∙ ap (λ es. cond c.in-Ok-Frame.ended es []) c.in_ok-events.ensures.value)
+    c.reserve.new.self c.tell_all.new.self c.end.new.self
+    (c.end.ensures.secret ∙ c.tell_all.ensures.secret ∙ c.reserve.ensures.secret)
+    c.reserve.ensures.listeners
+    (c.tell_all.ensures.listeners
+    ∙ ap (λ es. map (queued None es) c.reserve.new.self.listeners) c.into_twins.ensures.value)
+    c.end.ensures.listeners
 
--- the numbers stay, but for the clock
-pub returns-clause-serials : goal.returns-clause-serials
-returns-clause-serials c = ap (λ (g : GraphState). g.next_serial) (held c)
-    ∙ taken_next c.self.inside.graph.present
-    ∙ ap (λ (m : Mixed). m.mixer.studio.graph.next_serial) c.self.view_is
-
-pub returns-clause-clock : goal.returns-clause-clock
-returns-clause-clock c =
-    let later : c.take_frame.new.graph.present.clock
-    ≡ c.args.self.now.mixer.studio.graph.clock + 1 =
-    ap (λ (g : GraphState). g.clock) (held c) ∙ taken_clock c.self.inside.graph.present
-    ∙ ap (λ (m : Mixed). m.mixer.studio.graph.clock + 1) c.self.view_is in
-    omega (arith, later)
-
-pub returns-clause-items : goal.returns-clause-items
-returns-clause-items c = λ n within. subst (ItemsWithin n) (sym (held c))
-    (taken_items c.self.inside.graph.present n
-    (subst (λ (m : Mixed). ItemsWithin n m.mixer.studio.graph) (sym c.self.view_is) within))
+pub returns-in-Ok-Frame : goal.returns-in-Ok-Frame
+returns-in-Ok-Frame c = record {
+  steps = taken_all c.self.inside.studio c.self.inside.notes
+      c.self.inside.audience c.self.inside.next_conn c.args.self.now c.self.view_is
+      c.self.invariant c.begin_changes.new.self c.begin_changes.ensures.state
+      c.video_tick.new.self c.in-Ok-Frame.number c.in-Ok-Frame.shot c.in-Ok-Frame.recording
+      c.in-Ok-Frame.ended (rw c.in-Ok-Frame.field-0-is at c.in-Ok-Frame.ensures.reply)
+      c.in-Ok-Frame.ensures.state c.video_tick.ensures.shape c.keep_if.new.events
+      (c.keep_if.ensures.value
+      ∙ ap (λ es. cond c.in-Ok-Frame.ended es []) c.in_ok-events.ensures.value)
+      c.reserve.new.self c.tell_all.new.self c.end.new.self
+      (c.end.ensures.secret ∙ c.tell_all.ensures.secret ∙ c.reserve.ensures.secret)
+      c.reserve.ensures.listeners
+      (c.tell_all.ensures.listeners
+      ∙ ap (λ es. map (queued None es) c.reserve.new.self.listeners) c.into_twins.ensures.value)
+      c.end.ensures.listeners _ refl c.new.ensures.items refl refl;
+}

@@ -1,4 +1,4 @@
-use Rattle.std.proofs.Common.{◌≡◌, ◌≤◌, ap, arith, map}
+use Rattle.std.proofs.Common.{◌≡◌, ◌≤◌, ◌∙◌, ap, arith, map}
 use Rattle.mix_events.specs.Events.{event_intent}
 use Rattle.mix_fanout.specs.Lanes.{Fans, posted}
 use Rattle.mix_fanout.specs.Keys.{posted_line, takers}
@@ -26,10 +26,12 @@ invariant_of-self c =
     ) in
     let made : c.post-holders.new.lanes ≡ map (posted_line c.self.inside.store.vacant_key
     (event_intent c.args.event) c.args.but) c.deref_mut.result.now =
-    posted_alike _ _ _ _ _ _ _ _ c.vacant_key-key.ensures.value c.intent.ensures.value
+    posted_alike _ _ _ _ _ _ _ _ c.vacant_key-key.ensures.value
+    (c.intent.ensures.value ∙ ap event_intent c.event.ensures.value)
     c.number_of.ensures.value c.post-holders.ensures.state in
     let count : c.post-holders.result ≡ takers (event_intent c.args.event) c.args.but
-    c.self.inside.lanes.items = takers_alike _ _ _ _ _ _ _ c.intent.ensures.value
+    c.self.inside.lanes.items = takers_alike _ _ _ _ _ _ _
+    (c.intent.ensures.value ∙ ap event_intent c.event.ensures.value)
     c.number_of.ensures.value c.deref_mut.ensures.value c.post-holders.ensures.value in
     held_in_place c.self.inside.lanes (posted_line c.self.inside.store.vacant_key
     (event_intent c.args.event) c.args.but) c.post-holders.new.lanes _ made
@@ -43,10 +45,12 @@ pub returns-clause-lanes : goal.returns-clause-lanes
 returns-clause-lanes c =
     let made : c.post-holders.new.lanes ≡ map (posted_line c.self.inside.store.vacant_key
     (event_intent c.args.event) c.args.but) c.deref_mut.result.now =
-    posted_alike _ _ _ _ _ _ _ _ c.vacant_key-key.ensures.value c.intent.ensures.value
+    posted_alike _ _ _ _ _ _ _ _ c.vacant_key-key.ensures.value
+    (c.intent.ensures.value ∙ ap event_intent c.event.ensures.value)
     c.number_of.ensures.value c.post-holders.ensures.state in
     let count : c.post-holders.result ≡ takers (event_intent c.args.event) c.args.but
-    c.self.inside.lanes.items = takers_alike _ _ _ _ _ _ _ c.intent.ensures.value
+    c.self.inside.lanes.items = takers_alike _ _ _ _ _ _ _
+    (c.intent.ensures.value ∙ ap event_intent c.event.ensures.value)
     c.number_of.ensures.value c.deref_mut.ensures.value c.post-holders.ensures.value in
     seen_in_place c.self.inside.lanes (posted_line c.self.inside.store.vacant_key
     (event_intent c.args.event) c.args.but) c.post-holders.new.lanes _ made

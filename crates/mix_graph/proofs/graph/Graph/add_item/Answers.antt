@@ -3,12 +3,12 @@ use Rattle.std.proofs.Common.{sym, ◌∙◌}
 use Rattle.mix_model.specs.Marks.{edited}
 use Rattle.mix_model.specs.Items.{with_item}
 use Rattle.mix_model.specs.Edits.{item_added}
-use Rattle.mix_graph.proofs.ChangeLemmas.{changed_length}
+use Rattle.mix_store.proofs.ChangeLemmas.{changed_length}
 use Rattle.mix_shape.proofs.AddedShape.{item_added_shape}
 use Rattle.mix_shape.specs.Refused.{RefusedBy}
 use Rattle.mix_model.specs.Marks.{GraphModel}
 use Rattle.std.proofs.Common.{subst, Err}
-use Rattle.mix_graph.proofs.CreateLemmas.{refused_map}
+use Rattle.mix_store.proofs.CreateLemmas.{refused_map}
 use Rattle.mix_model.specs.Causes.{item_cause}
 use Rattle.mix_base.specs.declared.numbers.ItemId.{ItemId}
 use Rattle.mix_graph.proofs.graph.Graph.add_item.Goals as goal

@@ -1,21 +1,19 @@
 -- there is one row more, and the sources are settled
 use Rattle.std.proofs.Common.{◌≡◌, ◌+◌, ap, length, arith}
 use Rattle.mix_model.specs.Marks.{edited}
-use Rattle.mix_graph.specs.Settling.{Tallied}
-use Rattle.mix_graph.proofs.ShownLemmas.{group_count}
+use Rattle.mix_store.specs.Settling.{Tallied}
+use Rattle.mix_store.proofs.ShownLemmas.{group_count}
 use Rattle.mix_model.specs.Edits.{group_created, item_added}
 use Rattle.mix_shape.proofs.LivingLemmas.{group_lets_live}
 use Rattle.mix_shape.proofs.CreatedShape.{group_created_shape}
-use Rattle.mix_graph.proofs.CreateLemmas.{refused_same}
-use Rattle.mix_graph.proofs.ShownLemmas.{shown_group}
+use Rattle.mix_store.proofs.CreateLemmas.{refused_same}
+use Rattle.mix_store.proofs.ShownLemmas.{shown_group}
 use Rattle.mix_model.specs.declared.settings.Settings.TheVariants.{None as NoSettings}
 use Rattle.mix_base.specs.declared.numbers.ItemId.{ItemId}
 use Rattle.mix_base.specs.declared.numbers.Serial.{Serial}
-use Rattle.std.proofs.Common.{refl}
 use Rattle.mix_shape.specs.Refused.{RefusedBy}
 use Rattle.mix_model.specs.Marks.{GraphModel}
 use Rattle.std.proofs.Common.{subst, Err}
-use Rattle.mix_graph.proofs.CreateLemmas.{refused_map}
 use Rattle.mix_model.specs.Causes.{shown_cause}
 use Rattle.mix_shape.specs.Created.{shown_added}
 use Rattle.mix_model.specs.declared.kind.Kind.TheVariants.{Group}

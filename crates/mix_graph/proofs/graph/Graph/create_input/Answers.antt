@@ -1,18 +1,17 @@
 -- there is one row more, and the sources are settled
 use Rattle.std.proofs.Common.{◌≡◌, ◌+◌, ap, length, arith}
 use Rattle.mix_model.specs.Marks.{edited}
-use Rattle.mix_graph.specs.Settling.{Tallied}
-use Rattle.mix_graph.proofs.ShownLemmas.{input_count}
+use Rattle.mix_store.specs.Settling.{Tallied}
+use Rattle.mix_store.proofs.ShownLemmas.{input_count}
 use Rattle.mix_shape.proofs.LivingLemmas.{input_lets_live}
 use Rattle.mix_shape.proofs.CreatedShape.{input_made_shape, made_clock, wanted_place}
-use Rattle.mix_graph.proofs.CreateLemmas.{refused_same}
+use Rattle.mix_store.proofs.CreateLemmas.{refused_same}
 use Rattle.mix_base.specs.declared.numbers.ItemId.{ItemId}
 use Rattle.mix_base.specs.declared.numbers.Serial.{Serial}
-use Rattle.std.proofs.Common.{refl, Option}
+use Rattle.std.proofs.Common.{Option}
 use Rattle.mix_shape.specs.Refused.{RefusedBy}
 use Rattle.mix_model.specs.Marks.{GraphModel}
 use Rattle.std.proofs.Common.{subst, Err}
-use Rattle.mix_graph.proofs.CreateLemmas.{refused_map}
 use Rattle.mix_shape.specs.Created.{input_cause, input_made}
 use Rattle.mix_graph.proofs.graph.Graph.create_input.Goals as goal
 

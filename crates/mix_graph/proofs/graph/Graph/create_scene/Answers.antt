@@ -1,12 +1,12 @@
 -- there is one row more, and the sources are settled
 use Rattle.std.proofs.Common.{◌≡◌, ◌+◌, ap, length, arith}
 use Rattle.mix_model.specs.Marks.{edited}
-use Rattle.mix_graph.specs.Settling.{Tallied}
-use Rattle.mix_graph.proofs.ShownLemmas.{scene_count}
+use Rattle.mix_store.specs.Settling.{Tallied}
+use Rattle.mix_store.proofs.ShownLemmas.{scene_count}
 use Rattle.mix_model.specs.Edits.{scene_created}
 use Rattle.mix_shape.proofs.LivingLemmas.{scene_lets_live}
 use Rattle.mix_shape.proofs.CreatedShape.{scene_created_shape}
-use Rattle.mix_graph.proofs.CreateLemmas.{refused_same}
+use Rattle.mix_store.proofs.CreateLemmas.{refused_same}
 use Rattle.mix_shape.proofs.BareLemmas.{bare_scene}
 use Rattle.mix_base.specs.declared.numbers.Serial.{Serial}
 use Rattle.std.proofs.Common.{sym, ◌∙◌}

@@ -3,8 +3,8 @@ use Rattle.std.proofs.Common.{sym, ◌∙◌}
 use Rattle.mix_model.specs.Marks.{edited}
 use Rattle.mix_model.specs.Items.{with_item}
 use Rattle.mix_model.specs.Edits.{item_added}
-use Rattle.mix_graph.proofs.ChangeLemmas.{changed_length}
-use Rattle.mix_graph.proofs.ItemLemmas.{copy_put}
+use Rattle.mix_store.proofs.ChangeLemmas.{changed_length}
+use Rattle.mix_store.proofs.ItemLemmas.{copy_put}
 use Rattle.mix_shape.proofs.AddedShape.{duplicated_shape}
 use Rattle.mix_graph.proofs.graph.Graph.duplicate_item.Goals as goal
 

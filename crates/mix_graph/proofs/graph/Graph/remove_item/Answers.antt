@@ -3,7 +3,7 @@ use Rattle.mix_model.specs.Edits.{item_removed}
 use Rattle.mix_shape.proofs.ThinnerShape.{removed_shape}
 use Rattle.mix_graph.proofs.graph.Graph.remove_item.Goals as goal
 
-pub edit_row-requires : goal.edit_row-requires
+pub edit-requires : goal.edit-requires
 unfolding item_removed
-edit_row-requires c = rw (← c.self.view_is)
+edit-requires c = rw (← c.self.view_is)
     (removed_shape c.args.parent c.args.item c.self.inside.sources c.self.invariant.shape)

@@ -5,9 +5,9 @@ use Rattle.mix_model.specs.Edits.{renamed}
 use Rattle.mix_shape.proofs.SetShape.{renamed_shape}
 use Rattle.mix_graph.proofs.graph.Graph.rename.Goals as goal
 
-pub edit_row-requires : goal.edit_row-requires
+pub edit-requires : goal.edit-requires
 unfolding renamed
-edit_row-requires c =
+edit-requires c =
     let free : has_name c.self.inside.sources c.args.name ≡ false =
     rw c.bytes.ensures.value at (sym c.has_name.ensures ∙ c.if-has_name.false) in
     rw (← c.self.view_is)

@@ -3,8 +3,8 @@ use Rattle.mix_model.specs.Edits.{item_locked}
 use Rattle.mix_model.proofs.EditShape.{edited_of, locked_shape}
 use Rattle.mix_graph.proofs.graph.Graph.set_locked.Goals as goal
 
-pub edit_row-requires : goal.edit_row-requires
+pub edit-requires : goal.edit-requires
 unfolding item_locked
-edit_row-requires c = rw (← c.self.view_is)
+edit-requires c = rw (← c.self.view_is)
     (edited_of (item_locked c.args.parent c.args.item c.args.locked c.self.inside.sources)
     (locked_shape c.args.parent c.args.item c.args.locked c.self.inside.sources c.self.invariant.shape))

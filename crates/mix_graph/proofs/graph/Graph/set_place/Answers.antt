@@ -3,9 +3,9 @@ use Rattle.mix_model.specs.Edits.{item_placed}
 use Rattle.mix_model.proofs.EditShape.{edited_of, placed_shape}
 use Rattle.mix_graph.proofs.graph.Graph.set_place.Goals as goal
 
-pub edit_row-requires : goal.edit_row-requires
+pub edit-requires : goal.edit-requires
 unfolding item_placed
-edit_row-requires c = rw (← c.self.view_is)
+edit-requires c = rw (← c.self.view_is)
     (edited_of (item_placed c.args.parent c.args.item c.args.place c.args.blend
     c.self.inside.sources) (placed_shape c.args.parent c.args.item c.args.place c.args.blend
     c.requires.place c.self.inside.sources c.self.invariant.shape))

@@ -1,4 +1,4 @@
-use Rattle.std.proofs.Common.{◌≡◌, ◌∙◌, IfSome, Ok, Option, ℕ, ap, is_ok, subst, sym}
+use Rattle.std.proofs.Common.{◌∙◌, IfSome, Option, ℕ, ap, is_ok, subst, sym}
 use Rattle.mix_model.specs.Edits.{empty_graph}
 use Rattle.mix_model.specs.Lines.{lines_done}
 use Rattle.mix_studio.specs.Openings.{IsScene}

@@ -1,4 +1,4 @@
-use Rattle.std.proofs.Common.{◌≡◌, ◌∙◌, ◌<◌, ap, arith, subst, sym}
+use Rattle.std.proofs.Common.{◌≡◌, ◌∙◌, ap, arith, subst, sym}
 use Rattle.mix_model.specs.Program.{BusChanged, advance_program}
 use Rattle.mix_model.specs.Recordings.{recording_of}
 use Rattle.mix_model.specs.Studio.{picture_taken}

@@ -1,0 +1,82 @@
+//! Connections that go, and that are closed.
+ghost use Rattle.std.specs.Prelude.{◌≡◌, is_some, true, OnOk, OnErr};
+ghost use Rattle.mix_audience.specs.Listeners.{listener_at};
+ghost use Rattle.mix_engine.specs.Step.{outcome};
+ghost use Rattle.mix_engine.specs.StepAnswers.{Steps, mixed_without};
+
+use crate::letting_go::{ids_of, let_go, notes_without};
+use crate::step_answer::{saying, silent};
+use crate::{Heading, Mixing, StepAnswer};
+use mix_base::{ConnId, NoMemory};
+use std::alloc::Global;
+
+impl Mixing {
+    ghost use Rattle.mix_engine.specs.Leaving.{goes};
+    ghost use Rattle.mix_model.specs.declared.action.Action.TheVariants as action;
+    ghost use Rattle.mix_engine.specs.declared.heading.Heading.TheVariants as heading;
+
+    /// A connection goes.
+    pub(crate) fn leave(&mut self, alloc: Global, conn: ConnId) -> Result<StepAnswer, NoMemory>
+        ensures steps { Steps result self.old self.new
+            (outcome self.old.mixer (action.Leave conn)) }
+    {
+        self.has_shape();
+        match self.turn_away(alloc, conn)? {
+            Some(answer) => Ok(answer),
+            None => self.depart(alloc, conn),
+        }
+    }
+
+    /// An open connection goes, with what it held and watched.
+    fn depart(&mut self, alloc: Global, conn: ConnId) -> Result<StepAnswer, NoMemory>
+        requires is_there { is_some (listener_at conn self.old.listeners) ≡ true }
+        ensures steps { Steps result self.old self.new
+            (goes self.old.mixer conn (heading.Left conn)) }
+    {
+        self.has_shape();
+        self.let_go(alloc, conn)?;
+        self.audience.leave(conn);
+        self.audience.end(Some(conn));
+        Ok(silent(alloc, Heading::Left { conn }))
+    }
+
+    /// An open connection is told what waits for it, and closed with a code: it goes with what it held
+    /// and watched.
+    pub(crate) fn close(
+        &mut self,
+        alloc: Global,
+        conn: ConnId,
+        code: u16,
+    ) -> Result<StepAnswer, NoMemory>
+        requires is_there { is_some (listener_at conn self.old.listeners) ≡ true }
+        ensures steps { Steps result self.old self.new
+            (goes self.old.mixer conn (heading.Closed conn code)) }
+    {
+        let said = self.audience.waiting(alloc, conn, 0)?;
+        let Ok(()) = self.let_go(alloc, conn) else {
+            drop(said);
+            return Err(NoMemory);
+        };
+        self.audience.leave(conn);
+        self.audience.end(Some(conn));
+        Ok(saying(Heading::Closed { conn, code }, said))
+    }
+
+    /// What the connection holds and watches is let go.
+    fn let_go(&mut self, alloc: Global, conn: ConnId) -> Result<(), NoMemory>
+        ensures ok { OnOk result (self.new ≡ mixed_without conn self.old) }
+        ensures err { OnErr result (self.new ≡ self.old) }
+    {
+        let holds = ids_of(alloc, self.notes.holds.as_slice(), conn)?;
+        let Ok(watches) = ids_of(alloc, self.notes.watches.as_slice(), conn) else {
+            drop(holds);
+            return Err(NoMemory);
+        };
+        self.studio.begin_changes();
+        let_go(&mut self.studio, holds.as_slice(), watches.as_slice());
+        drop(holds);
+        drop(watches);
+        notes_without(alloc, &mut self.notes, conn);
+        Ok(())
+    }
+}

@@ -1,0 +1,3 @@
+pub mod CreateInput
+pub mod Inputs
+pub mod Laws

@@ -1,0 +1,2 @@
+-- what holds of the line of each request
+pub mod LineLemmas

@@ -1,0 +1,3 @@
+pub mod BroadcastCustomEvent
+pub mod Outputs
+pub mod Laws

@@ -1,0 +1,12 @@
+pub mod Table
+pub mod Twins
+pub mod Effects
+pub mod Outcomes
+pub mod Ready
+pub mod Named
+pub mod Read
+pub mod Sought
+pub mod Refusals
+pub mod Sources
+pub mod Programs
+pub mod Laws

@@ -1,0 +1,60 @@
+-- The marks and flags beside rows, and how many items they have.
+use Rattle.std.proofs.Common.{◌≡◌, ℕ, ◌+◌, ◌≤◌, Bool, false, List, [], ◌∷◌, ◌++◌, length, map, take}
+use Rattle.std.proofs.Common.{drop, refl, ap, sym, ◌∙◌, arith}
+use Rattle.std.proofs.lemmas.List.{length-map, drop_all, append-nil}
+use Rattle.std.proofs.Math.Seq.{take-length}
+use Rattle.std.proofs.lemmas.List.Sums.{sum_by-cons}
+use Rattle.std.proofs.Common.{cond, true}
+use Rattle.mix_model.specs.Rows.{is_at}
+use Rattle.mix_model.specs.Causes.{item_count}
+use Rattle.std.proofs.Common.{find, Some}
+use Rattle.mix_model.specs.declared.row.Row.{Row}
+use Rattle.mix_model.specs.State.{GraphState}
+use Rattle.mix_model.specs.Marks.{Mark, settled_by, row_settled, marks_of, mark_of}
+use Rattle.mix_model.specs.Walks.{is_active, is_showing}
+use Rattle.mix_store.specs.Settling.{marked_by}
+
+-- the settling keeps the number of rows
+pub settled_length : (marks : List Mark) (g : GraphState) →
+    length (settled_by marks g).rows ≡ length g.rows
+unfolding settled_by
+settled_length marks g = length-map g.rows (row_settled marks g)
+
+marked_from : (g : GraphState) (rows : List Row) →
+    marked_by rows (map (λ r. is_active g r.serial) rows)
+    (map (λ r. is_showing g r.serial) rows) ≡ map (mark_of g) rows
+marked_from g [] = refl
+marked_from g (row ∷ rows) = ap (λ ms. mark_of g row ∷ ms) (marked_from g rows)
+
+-- the marks by flags are the marks
+pub marked_all : (g : GraphState) → marked_by g.rows (map (λ r. is_active g r.serial) g.rows)
+    (map (λ r. is_showing g r.serial) g.rows) ≡ marks_of g
+marked_all g = marked_from g g.rows
+
+count_more : (row : Row) (rows : List Row) →
+    item_count (row ∷ rows) ≡ length row.items + item_count rows
+count_more row rows = sum_by-cons (λ (r : Row). length r.items) row rows
+
+-- a row has no more items than all rows together
+pub found_items : (x : ℕ) (rows : List Row) (row : Row) → find (is_at x) rows ≡ Some row →
+    length row.items ≤ item_count rows
+found_items x [] row found = cc
+found_items x (r ∷ rows) row found =
+    (elim (is_at x r) as (λ b. cond b (Some r) (find (is_at x) rows) ≡ Some row →
+    length row.items ≤ item_count (r ∷ rows)) [
+      | true ↦ λ here. let same : r ≡ row = cc in
+          let few : length row.items ≡ length r.items = ap (λ (z : Row). length z.items) (sym same) in
+          omega (arith, few, count_more r rows)
+      | false ↦ λ there. let few : length row.items ≤ item_count rows =
+          found_items x rows row there in
+          omega (arith, few, count_more r rows)
+    ]) found
+
+-- flags that are all written
+pub all_written : (now before : List Bool) (n : ℕ) → length now ≡ length before →
+    n ≡ length before → take n (now ++ drop (length now) before) ≡ now
+all_written now before n same count =
+    let none : drop (length now) before ≡ [] =
+    drop_all (length now) before (omega (arith, same)) in
+    let whole : n ≡ length now = count ∙ sym same in
+    rw (none, append-nil now, whole, take-length now)

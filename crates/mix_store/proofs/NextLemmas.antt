@@ -1,0 +1,82 @@
+-- The least serial above another, found one by one.
+use Rattle.std.proofs.Common.{◌≡◌, ℕ, Bool, true, false, ◌==◌, ◌||◌, cond, nat_le, nat_lt}
+use Rattle.std.proofs.Common.{List, [], ◌∷◌, ◌++◌, Option, Some, None, refl, arith}
+use Rattle.std.proofs.Common.{take, length, get_or, ◌+◌, ◌<◌}
+use Rattle.std.specs.List.{list_all}
+use Rattle.std.proofs.lemmas.Bool.Decides.{nat_tests}
+use Rattle.std.proofs.lemmas.List.{map_more}
+use Rattle.mix_model.specs.declared.row.Row.{Row}
+use Rattle.mix_model.specs.Sets.{has, is_next}
+use Rattle.mix_model.specs.Rows.{serials_of}
+use Rattle.mix_store.specs.Asked.{nearer}
+use Rattle.mix_model.proofs.SetLemmas.{and_first, and_second}
+
+-- what holds of all, and of one more
+all_more : (p q : ℕ → Bool) → ((y : ℕ) → p y ≡ true → q y ≡ true) → (xs : List ℕ) (y : ℕ) →
+    list_all p xs ≡ true → q y ≡ true → list_all q (xs ++ y ∷ []) ≡ true
+all_more p q step [] y all one = rw one refl
+all_more p q step (x ∷ xs) y all one =
+    let first : q x ≡ true = step x (and_first _ _ all) in
+    rw first (all_more p q step xs y (and_second _ _ all) one)
+
+has_more : (z : ℕ) (xs : List ℕ) (y : ℕ) → has z xs ≡ true → has z (xs ++ y ∷ []) ≡ true
+has_more z [] y there = cc
+has_more z (x ∷ xs) y there = (elim (x == z) as (λ b.
+    (b || has z xs) ≡ true → (b || has z (xs ++ y ∷ [])) ≡ true) [
+      | true ↦ λ here. refl
+      | false ↦ λ later. has_more z xs y later
+    ]) there
+
+has_last : (xs : List ℕ) (y : ℕ) → has y (xs ++ y ∷ []) ≡ true
+has_last [] y = let same : (y == y) ≡ true = grind (arith, nat_tests) in rw same refl
+has_last (x ∷ xs) y = elim (x == y) as (λ b. (b || has y (xs ++ y ∷ [])) ≡ true) [
+  | true ↦ refl
+  | false ↦ has_last xs y
+]
+
+first_above : (x y z : ℕ) → (nat_le y x || nat_le z y) ≡ false → nat_lt x y ≡ true
+first_above x y z near = grind (arith, nat_tests, near)
+
+still_least : (x y z w : ℕ) → (nat_le y x || nat_le z y) ≡ false →
+    (nat_le w x || nat_le z w) ≡ true → (nat_le w x || nat_le y w) ≡ true
+still_least x y z w near least = grind (arith, nat_tests, near, least)
+
+itself : (x y : ℕ) → (nat_le y x || nat_le y y) ≡ true
+itself x y = grind (arith, nat_tests)
+
+-- one serial more
+pub next_more : (x : ℕ) (xs : List ℕ) (found : Option ℕ) (y : ℕ) → is_next x xs found ≡ true →
+    is_next x (xs ++ y ∷ []) (nearer x found y) ≡ true
+next_more x xs None y all = (elim (nat_le y x) as (λ b. nat_le y x ≡ b →
+    is_next x (xs ++ y ∷ []) (cond b None (Some y)) ≡ true) [
+      | true ↦ λ below. all_more (λ w. nat_le w x) (λ w. nat_le w x) (λ w h. h) xs y all below
+      | false ↦ λ above. let over : nat_lt x y ≡ true = grind (arith, nat_tests, above) in
+          let own : nat_le y y ≡ true = grind (arith, nat_tests) in
+          rw (has_last xs y, over)
+          (all_more (λ w. nat_le w x) (λ w. nat_le w x || nat_le y w) (λ w h. rw h refl) xs y all
+          (rw (above, own) refl))
+    ]) refl
+next_more x xs (Some z) y all =
+    let there : has z xs ≡ true = and_first _ _ all in
+    let over : nat_lt x z ≡ true = and_first _ _ (and_second _ _ all) in
+    let least : list_all (λ w. nat_le w x || nat_le z w) xs ≡ true =
+    and_second _ _ (and_second _ _ all) in
+    (elim (nat_le y x || nat_le z y) as (λ b. (nat_le y x || nat_le z y) ≡ b →
+    is_next x (xs ++ y ∷ []) (cond b (Some z) (Some y)) ≡ true) [
+      | true ↦ λ past. rw (has_more z xs y there, over)
+          (all_more (λ w. nat_le w x || nat_le z w) (λ w. nat_le w x || nat_le z w) (λ w h. h) xs
+          y least past)
+      | false ↦ λ nearer. let above : nat_lt x y ≡ true = first_above x y z nearer in
+          rw (has_last xs y, above)
+          (all_more (λ w. nat_le w x || nat_le z w) (λ w. nat_le w x || nat_le y w)
+          (λ w h. still_least x y z w nearer h) xs y least (itself x y))
+    ]) refl
+
+-- one row more
+pub next_row : (x : ℕ) (rows : List Row) (i : ℕ) (row : Row) (found after : Option ℕ) →
+    i < length rows → row ≡ get_or rows i row →
+    is_next x (serials_of (take i rows)) found ≡ true → after ≡ nearer x found row.serial →
+    is_next x (serials_of (take (i + 1) rows)) after ≡ true
+next_row x rows i row found after below here so_far nearer_is =
+    rw (map_more (λ (r : Row). r.serial) rows i row below, ← here, nearer_is)
+    (next_more x (serials_of (take i rows)) found row.serial so_far)

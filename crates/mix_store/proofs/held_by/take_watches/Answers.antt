@@ -1,0 +1,7 @@
+-- those that stay are those that pass the test
+use Rattle.std.proofs.Common.{rules}
+use Rattle.std.proofs.lemmas.Fn.{filter_same}
+use Rattle.mix_store.proofs.held_by.take_watches.Goals as goal
+
+pub returns : goal.returns
+returns c = filter_same _ _ _ (λ x b f k. search rules) _ _ c.retain.ensures.filtered

@@ -1,0 +1,7 @@
+-- the serials that stay are those that pass the test
+use Rattle.std.proofs.Common.{rules}
+use Rattle.std.proofs.lemmas.Fn.{filter_same}
+use Rattle.mix_store.proofs.removed.take_serial.Goals as goal
+
+pub returns : goal.returns
+returns c = filter_same _ _ _ (λ x b f k. search rules) _ _ c.retain.ensures.filtered

@@ -1,0 +1,36 @@
+-- the chain, and then the rows as they would be
+use Rattle.std.proofs.Common.{◌≡◌, ◌∙◌, sym, ap}
+use Rattle.mix_model.specs.State.{GraphState}
+use Rattle.mix_store.proofs.ItemLemmas.{late_chained}
+use Rattle.mix_shape.proofs.WithLemmas.{late_few}
+use Rattle.mix_store.proofs.CheckLemmas.{item_refuses, item_allows}
+use Rattle.mix_store.proofs.sources.Sources.check_child.Goals as goal
+
+pub returns-then-is_chained-clause-refused : goal.returns-then-is_chained-clause-refused
+returns-then-is_chained-clause-refused c = λ spec. late_chained c.args.self.now _ c.args.parent
+    c.args.child (sym c.is_chained.ensures ∙ c.if-is_chained.true)
+
+pub returns-in-Some-clause-refused : goal.returns-in-Some-clause-refused
+returns-in-Some-clause-refused c = λ spec.
+    let rows : c.self.inside.rows.items ≡ c.args.self.now.rows =
+    ap (λ (g : GraphState). g.rows) c.self.view_is in
+    let some = rw (c.as_slice-rows.ensures.value, rows) at (sym c.late_cause.ensures ∙ c.in-Some.is) in
+    item_refuses (Unit {0}) c.args.self.now c.args.parent c.args.child spec c.in-Some.fault
+    (sym c.is_chained.ensures ∙ c.if-is_chained.false) (rw rows at c.self.invariant.differ)
+    c.requires.there some
+
+pub returns-in-None-clause-few : goal.returns-in-None-clause-few
+returns-in-None-clause-few c =
+    let rows : c.self.inside.rows.items ≡ c.args.self.now.rows =
+    ap (λ (g : GraphState). g.rows) c.self.view_is in
+    late_few _ c.args.self.now.rows _
+    (rw (c.as_slice-rows.ensures.value, rows) at (sym c.late_cause.ensures ∙ c.in-None.is))
+
+pub returns-in-None-clause-refused : goal.returns-in-None-clause-refused
+returns-in-None-clause-refused c = λ spec.
+    let rows : c.self.inside.rows.items ≡ c.args.self.now.rows =
+    ap (λ (g : GraphState). g.rows) c.self.view_is in
+    let none = rw (c.as_slice-rows.ensures.value, rows) at (sym c.late_cause.ensures ∙ c.in-None.is) in
+    item_allows c.args.self.now c.args.parent c.args.child spec
+    (sym c.is_chained.ensures ∙ c.if-is_chained.false) (rw rows at c.self.invariant.differ)
+    c.requires.there none
