@@ -3,15 +3,16 @@
 
     bench/painting.py [PROGRAM [TOOLS]]
 
-PROGRAM is crates/lenkhov/out/lenkhov unless it is named; `rt run` in crates/lenkhov builds it. TOOLS is
-the folder shared/tools beside this repository unless it is named: it has painting_scene.py, which writes
-the scene as a collection, the same canvas with nothing on it, and scripts of frames, and
-painting_peer.c, the C program, which gcc compiles. The canvas has 1920 by 1080 pixels.
+PROGRAM is crates/mix_painting/out/mix_painting unless it is named; `rt run` in crates/mix_painting builds
+it. TOOLS is the folder shared/tools beside this repository unless it is named: it has painting_peer.c, the
+C program, which gcc compiles twice, for this machine and for the instructions that the kit compiles for.
+The canvas has 1920 by 1080 pixels.
 
-Both programs run by turns, five times. Prints the least milliseconds of processor time that a frame
-takes: of the C program; of a copy of the picture by it; of the scene less the empty canvas, each at two
-numbers of frames, so that reading, digests and starting fall out; and of the empty canvas with its
-digest, beside what `sha256sum` takes for as many bytes. Ends with 1 where a run goes wrong.
+All run by turns, five times. Prints the least milliseconds that a picture takes: of processor time, by the
+C programs; a copy of the picture by them; the scene, its lowest layer alone, and nothing, each at two
+numbers of pictures, so that the start falls out; its digest, at two numbers of digests, beside what
+`sha256sum` takes for as many bytes; and then, by the clock, the scene by one, two and four workers, for
+which the machine must be idle. Ends with 1 where a run goes wrong.
 """
 
 import pathlib
@@ -19,92 +20,98 @@ import resource
 import subprocess
 import sys
 import tempfile
+import time
 
-from measuring import HOME, program_named, replay
+from measuring import HOME
+from painting_picture import digest
 
 RUNS = 5
-FEW, MANY = 10, 40
-PEER_FRAMES = 40
+FEW, MANY = 5, 25
+PEER_PICTURES = 20
 BYTES = 4 * 1920 * 1080
 
 
-def tools_named(words):
-    """The folder of the scene and of the C program."""
+def program_of(words):
+    """The program that the first of these words names, or the one that `rt run` builds."""
+    program = pathlib.Path(words[0]) if words else HOME / "crates/mix_painting/out/mix_painting"
+    if not program.is_file():
+        sys.exit(f"{program} isn't there: `rt run` in crates/mix_painting builds it")
+    return program
+
+
+def peer_of(words):
+    """The C program's text."""
     tools = pathlib.Path(words[0]) if words else HOME.parent / "shared/tools"
-    if not (tools / "painting_scene.py").is_file():
-        sys.exit(f"{tools} has no painting_scene.py: name the folder that has it, and painting_peer.c")
-    return tools
+    if not (tools / "painting_peer.c").is_file():
+        sys.exit(f"{tools} has no painting_peer.c: name the folder that has it")
+    return tools / "painting_peer.c"
 
 
-def write_scene(tools, folder, frames):
-    """The collections and the script of so many frames, in a folder of their own."""
-    place = folder / str(frames)
-    subprocess.run([sys.executable, tools / "painting_scene.py", place, str(frames)], check=True)
-    return place
-
-
-def compiled(tools, folder):
-    peer = folder / "painting_peer"
-    source = tools / "painting_peer.c"
-    subprocess.run(["gcc", "-O3", "-march=native", "-o", peer, source], check=True)
+def compiled(source, folder, machine):
+    """The C program, compiled for a kind of machine."""
+    peer = folder / machine
+    subprocess.run(["gcc", "-O3", f"-march={machine}", "-o", peer, source], check=True)
     return peer
 
 
-def seconds(program, place, name, frames):
-    """The seconds of processor time of a run over a collection, after a look at its output."""
-    shown = 0
-
-    def look(line):
-        nonlocal shown
-        shown += line.startswith(b"v ")
-
-    collection, record = place / f"{name}.collection", place / "record"
-    status, taken, _ = replay(program, collection, place / "frames.script", record, look)
-    if status == 9:
-        sys.exit("the program doesn't read items with places yet, so that it can't show the scene")
-    if (status, shown) != (0, frames):
-        sys.exit(f"{name}: status {status}, {shown} pictures of {frames}")
-    return taken
+def seconds(words):
+    """What a run takes: the seconds of processor time, those by the clock, and its output."""
+    before, begun = resource.getrusage(resource.RUSAGE_CHILDREN), time.perf_counter()
+    run = subprocess.run([str(word) for word in words], check=True, capture_output=True, text=True)
+    ended, after = time.perf_counter(), resource.getrusage(resource.RUSAGE_CHILDREN)
+    used = after.ru_utime + after.ru_stime - before.ru_utime - before.ru_stime
+    return used, ended - begun, run.stdout
 
 
-def a_frame(program, places, name):
-    """The milliseconds of one frame more."""
-    few, many = (seconds(program, places[frames], name, frames) for frames in (FEW, MANY))
-    return (many - few) / (MANY - FEW) * 1000
+def a_picture(program, layers, workers=1):
+    """The milliseconds of a picture more, of processor time and by the clock."""
+    few, many = (seconds([program, layers, times, workers, 0]) for times in (FEW, MANY))
+    return [(many[kind] - few[kind]) / (MANY - FEW) * 1000 for kind in (0, 1)]
 
 
-def peer_frame(peer, *words):
-    """What the C program says that a frame takes."""
-    run = subprocess.run([peer, str(PEER_FRAMES), *words], check=True, capture_output=True, text=True)
-    return float(run.stdout)
+def a_digest(program):
+    """The milliseconds of processor time of a digest more."""
+    few, many = (seconds([program, 0, 1, 1, times])[0] for times in (1, 9))
+    return (many - few) / 8 * 1000
 
 
-def digest(folder):
-    """The milliseconds of processor time of `sha256sum` for as many bytes as a picture has."""
+def a_sum(folder):
+    """Those of `sha256sum` for as many bytes as a picture has, of a file of eight times as many."""
     file = folder / "bytes"
     file.write_bytes(bytes(BYTES) * 8)
-    before = resource.getrusage(resource.RUSAGE_CHILDREN)
-    subprocess.run(["sha256sum", file], check=True, capture_output=True)
-    after = resource.getrusage(resource.RUSAGE_CHILDREN)
-    return (after.ru_utime + after.ru_stime - before.ru_utime - before.ru_stime) / 8 * 1000
+    return seconds(["sha256sum", file])[0] / 8 * 1000
 
 
 def main():
-    program = program_named(sys.argv[1:2])
-    tools = tools_named(sys.argv[2:3])
+    program, source = program_of(sys.argv[1:2]), peer_of(sys.argv[2:3])
+    if seconds([program, 12, 1, 2, 1])[2] != digest() + "\n":
+        sys.exit("the picture isn't that of the rules")
     with tempfile.TemporaryDirectory() as name:
         folder = pathlib.Path(name)
-        places = {frames: write_scene(tools, folder, frames) for frames in (FEW, MANY)}
-        peer = compiled(tools, folder)
+        native, plain = (compiled(source, folder, machine) for machine in ("native", "x86-64-v2"))
         rows = []
         for _ in range(RUNS):
-            full, empty = (a_frame(program, places, scene) for scene in ("full", "empty"))
-            rows.append((peer_frame(peer), peer_frame(peer, "copy"), full - empty, empty, digest(folder)))
-    found = [min(column) for column in zip(*rows)]
-    words = ("the C program", "a copy of the picture", "the scene", "an empty frame", "sha256sum")
-    for word, least in zip(words, found):
-        print(f"{word}: {least:.1f} ms a frame")
-    print(f"the scene by the C program: {found[2] / found[0]:.2f}")
+            row = {
+                "the C program": float(seconds([native, PEER_PICTURES])[2]),
+                "the C program for x86-64-v2": float(seconds([plain, PEER_PICTURES])[2]),
+                "a copy of the picture": float(seconds([native, PEER_PICTURES, "copy"])[2]),
+                "nothing": a_picture(program, 0)[0],
+                "the lowest layer": a_picture(program, 1)[0],
+                "a digest": a_digest(program),
+                "sha256sum": a_sum(folder),
+            }
+            row["the scene"], row["the scene by the clock"] = a_picture(program, 12)
+            row["by two workers"] = a_picture(program, 12, 2)[1]
+            row["by four workers"] = a_picture(program, 12, 4)[1]
+            rows.append(row)
+    least = {word: min(row[word] for row in rows) for word in rows[0]}
+    for word, found in least.items():
+        print(f"{word}: {found:.1f} ms")
+    scene = least["the scene"]
+    print(f"the scene by the C programs: {scene / least['the C program']:.2f}, "
+          f"{scene / least['the C program for x86-64-v2']:.2f}")
+    print(f"two workers by one: {least['by two workers'] / least['the scene by the clock']:.2f}")
+    print(f"a digest by sha256sum: {least['a digest'] / least['sha256sum']:.2f}")
 
 
 if __name__ == "__main__":

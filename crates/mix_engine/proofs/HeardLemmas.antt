@@ -1,7 +1,6 @@
 -- What was heard: it can be said again, and is done as the outcome of the message says.
 use Rattle.std.proofs.Common.{◌≡◌, ◌∙◌, ℕ, List, length, IsTrue, is_some, refl, codes, not, ap, subst}
 use Rattle.std.proofs.Common.{nat_lt, option_map, Option, Some, None, Result, Ok, Err}
-use Rattle.std.specs.Option.{option_map_or}
 use Rattle.mix_audience.specs.Listeners.{Listener, listener_at}
 use Rattle.mix_base.specs.declared.no_memory.NoMemory.{NoMemory}
 use Rattle.mix_base.specs.Json.{Object}
@@ -109,24 +108,22 @@ plain_heard secret message (Some l) heard is =
 
 -- ---- what an open connection said is done
 
-pub heard_steps : (before m : Mixed) (conn : ℕ) (message : Message) (heard : Heard)
-    (result : Result StepAnswer NoMemory) (new : Mixed) → before ≡ m → IsMixing before →
+pub heard_steps : {before m : Mixed} → IsMixing before → before ≡ m → (conn : ℕ)
+    (message : Message) (heard : Heard) (result : Result StepAnswer NoMemory) (new : Mixed) →
     IsOpen m conn → Some heard ≡ option_map
     (λ (l : Listener). hear before.mixer.secret l.challenge l.mask message)
     (listener_at conn before.listeners) →
     Steps result before new (heard_from before.mixer conn heard) →
     Steps result m new (acting m.mixer conn (conn_at conn m.mixer.conns)
     (λ c. heard_from m.mixer conn (hear m.mixer.secret c.challenge c.mask message)))
-heard_steps before m conn message heard result new seen sound there is steps =
+heard_steps {before} {m} sound seen conn message heard result new there is steps =
     let said : Some heard ≡ Some (hear m.mixer.secret there.one.challenge there.one.mask message)
     = is ∙ ap (λ (k : Mixed). option_map
     (λ (l : Listener). hear k.mixer.secret l.challenge l.mask message)
     (listener_at conn k.listeners)) seen ∙ ap (option_map
     (λ (l : Listener). hear m.mixer.secret l.challenge l.mask message)) there.found in
-    let same : heard ≡ hear m.mixer.secret there.one.challenge there.one.mask message
-    = ap (λ o. option_map_or (λ (h : Heard). h) o heard) said in
-    open_steps m conn result new
-    (λ c. heard_from m.mixer conn (hear m.mixer.secret c.challenge c.mask message))
-    (subst IsMixing seen sound) there
+    let same : heard ≡ hear m.mixer.secret there.one.challenge there.one.mask message = cc in
+    open_steps (subst IsMixing seen sound) conn result new
+    (λ c. heard_from m.mixer conn (hear m.mixer.secret c.challenge c.mask message)) there
     (subst (λ h. Steps result m new (heard_from m.mixer conn h)) same
     (subst (λ (k : Mixed). Steps result k new (heard_from k.mixer conn heard)) seen steps))

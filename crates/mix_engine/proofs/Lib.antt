@@ -10,8 +10,6 @@ pub mod Stepping
 pub mod HeardLemmas
 -- who comes, goes, or is identified is the one whose entry it is
 pub mod Actors
--- states and traces after one entry more
-pub mod Traces
 -- what waits for a connection is its queue
 pub mod QueueLemmas
 -- how far numbers go on

@@ -23,6 +23,7 @@ use Rattle.mix_model.specs.declared.event.Event.{Event}
 use Rattle.mix_model.specs.declared.event.Event.TheVariants as event
 use Rattle.mix_events.specs.declared.said.Said.{Said}
 use Rattle.mix_events.specs.declared.said.Said.TheVariants.{Event as OfEvent}
+use Rattle.mix_model.proofs.SetLemmas.{and_first, and_second}
 use Rattle.mix_model.specs.Settle.{told_changes}
 use Rattle.mix_model.specs.State.{GraphState}
 use Rattle.mix_engine.specs.Connections as conns
@@ -64,26 +65,29 @@ rests_if false events l = ap (λ n. let c : Connection = record (conn_of l) {
   cut = l.cut || nat_le standard.waiting n;
 } in c) (length-append l.waiting (taken_of l events))
 
-queued_number : (b : Bool) (events : List Event) (l : Listener) →
-    (queued_if b events l).number ≡ l.number
-queued_number true events l = refl
-queued_number false events l = refl
+-- telling changes no number
+pub ended_number : (actor : Option ℕ) (l : Listener) → (ended actor l).number ≡ l.number
+ended_number actor l = elim (is_but actor l.number) as (λ b. (ended_if b l).number ≡ l.number)
+    [ true ↦ refl | false ↦ refl ]
+
+pub queued_number : (actor : Option ℕ) (events : List Event) (l : Listener) →
+    (queued actor events l).number ≡ l.number
+queued_number actor events l = elim (is_but actor l.number)
+    as (λ b. (queued_if b events l).number ≡ l.number) [ true ↦ refl | false ↦ refl ]
 
 -- what an action leaves of a connection
 rests_one : (actor : Option ℕ) (events : List Event) (l : Listener) →
     conn_of (ended actor (queued actor events l)) ≡ rested actor events (conn_of l)
 rests_one actor events l =
     ap (λ n. conn_of (ended_if (is_but actor n) (queued actor events l)))
-    (queued_number (is_but actor l.number) events l)
+    (queued_number actor events l)
     ∙ rests_if (is_but actor l.number) events l
 
 rests_all : (actor : Option ℕ) (events : List Event) (ls : List Listener) →
     map conn_of (map (ended actor) (map (queued actor events) ls))
     ≡ map (rested actor events) (map conn_of ls)
 rests_all actor events [] = refl
-rests_all actor events (l ∷ ls) = ap (λ c. c
-    ∷ map conn_of (map (ended actor) (map (queued actor events) ls))) (rests_one actor events l)
-    ∙ ap (λ cs. rested actor events (conn_of l) ∷ cs) (rests_all actor events ls)
+rests_all actor events (l ∷ ls) = rw (rests_one actor events l, rests_all actor events ls) refl
 
 -- who is identified
 masked_conn : (conn mask : ℕ) (l : Listener) →
@@ -96,9 +100,7 @@ masked_conn conn mask l = elim (l.number == conn)
 masked_conns : (conn mask : ℕ) (ls : List Listener) →
     map conn_of (map (with_mask conn mask) ls) ≡ map (conns.with_mask conn mask) (map conn_of ls)
 masked_conns conn mask [] = refl
-masked_conns conn mask (l ∷ ls) =
-    ap (λ c. c ∷ map conn_of (map (with_mask conn mask) ls)) (masked_conn conn mask l)
-    ∙ ap (λ cs. conns.with_mask conn mask (conn_of l) ∷ cs) (masked_conns conn mask ls)
+masked_conns conn mask (l ∷ ls) = rw (masked_conn conn mask l, masked_conns conn mask ls) refl
 
 -- so far no outcome makes batches pend
 abbrev pub IsBatchless : Attendance → Type 0
@@ -140,22 +142,14 @@ pub settling_is : (old new : GraphState) → All IsOfActivity (settling_events o
 settling_is old new = All-map IsOfActivity (change_event new) (told_changes old new)
     (λ k d within. change_is new (get_or (told_changes old new) k d))
 
-both_left : (a b : Bool) → (a && b) ≡ true → a ≡ true
-both_left true b is = refl
-both_left false b is = is
-
-both_right : (a b : Bool) → (a && b) ≡ true → b ≡ true
-both_right true b is = is
-both_right false b is = cc
-
 -- who is deaf wants none
 unwanted : (mask : Option ℕ) (e : Event) → IsDeafMask mask → IsOfActivity e →
     wants mask e ≡ false
 unwanted None e deaf of = refl
 unwanted (Some mask) (event.InputActiveStateChanged input serial active) deaf of =
-    ap not (both_left (bit_and mask 131072 == 0) (bit_and mask 262144 == 0) deaf)
+    ap not (and_first (bit_and mask 131072 == 0) (bit_and mask 262144 == 0) deaf)
 unwanted (Some mask) (event.InputShowStateChanged input serial showing) deaf of =
-    ap not (both_right (bit_and mask 131072 == 0) (bit_and mask 262144 == 0) deaf)
+    ap not (and_second (bit_and mask 131072 == 0) (bit_and mask 262144 == 0) deaf)
 unwanted (Some mask) e deaf of = absurd of
 
 untaken : (cut b : Bool) → b ≡ false → (not cut && b) ≡ false
@@ -186,11 +180,10 @@ module _ (events rest : List Event) (of : All IsOfActivity rest) where
   pub queued_heard : (actor : Option ℕ) (ls : List Listener) → All IsListener ls →
       map (queued actor (events ++ rest)) ls ≡ map (queued actor events) ls
   queued_heard actor [] all = refl
-  queued_heard actor (l ∷ ls) all =
-      ap (λ m. m ∷ map (queued actor (events ++ rest)) ls)
-      (queued_one actor l (All-head IsListener l ls all))
-      ∙ ap (λ ms. queued actor events l ∷ ms)
-      (queued_heard actor ls (All-tail IsListener l ls all))
+  queued_heard actor (l ∷ ls) all = rw (
+    queued_one actor l (All-head IsListener l ls all),
+    queued_heard actor ls (All-tail IsListener l ls all),
+  ) refl
 
   -- and nobody is told them
   pub taken_heard : (conn : ℕ) (ls : List Listener) → All IsListener ls →
@@ -214,8 +207,7 @@ queued_none_one actor l = elim (is_but actor l.number) as (λ b. queued_if b [] 
 
 pub queued_none : (actor : Option ℕ) (ls : List Listener) → map (queued actor []) ls ≡ ls
 queued_none actor [] = refl
-queued_none actor (l ∷ ls) = ap (λ m. m ∷ map (queued actor []) ls) (queued_none_one actor l)
-    ∙ ap (λ ms. l ∷ ms) (queued_none actor ls)
+queued_none actor (l ∷ ls) = rw (queued_none_one actor l, queued_none actor ls) refl
 
 pub taken_none : (found : Option Listener) →
     option_map_or (λ (l : Listener). taken_of l []) found [] ≡ []
@@ -230,7 +222,7 @@ ended_one actor l is = elim (is_but actor l.number) as (λ b. IsListener (ended_
   | false ↦ record { deaf = is.deaf; sayable = is.sayable }
 ]
 
-pub ended_all : (actor : Option ℕ) (ls : List Listener) → All IsListener ls →
+ended_all : (actor : Option ℕ) (ls : List Listener) → All IsListener ls →
     All IsListener (map (ended actor) ls)
 ended_all actor ls all = All-map IsListener (ended actor) ls
     (λ k d within. ended_one actor (get_or ls k d) (all k d within))
@@ -251,7 +243,7 @@ queued_sayable actor events l all is = elim (is_but actor l.number)
       }
     ]
 
-pub queued_all : (actor : Option ℕ) (events : List Event) (ls : List Listener) →
+queued_all : (actor : Option ℕ) (events : List Event) (ls : List Listener) →
     All IsSayableEvent events → All IsListener ls → All IsListener (map (queued actor events) ls)
 queued_all actor events ls sayable all = All-map IsListener (queued actor events) ls
     (λ k d within. queued_sayable actor events (get_or ls k d) sayable (all k d within))
@@ -271,14 +263,13 @@ IsDeafTo _ = Unit {0}
 
 pub attended_all : (a : Attendance) (ls : List Listener) → IsDeafTo a → All IsListener ls →
     All IsListener (attended a ls)
-attended_all conns.Same ls deaf all = all
 attended_all (conns.Joins conn challenge) ls deaf all =
     All-push IsListener ls (new_listener conn challenge) all
     (record { deaf = tt; sayable = All-nil IsSayableEvent })
 attended_all (conns.Identifies conn mask) ls deaf all = All-map IsListener (with_mask conn mask) ls
     (λ k d within. masked_one conn mask (get_or ls k d) deaf (all k d within))
 attended_all (conns.Leaves conn) ls deaf all = All-filter (is_other conn) IsListener ls all
-attended_all (conns.Pends conn batches) ls deaf all = all
+attended_all _ ls deaf all = all
 
 -- what is told of an outcome waits for others as its own events alone would
 pub told_heard : (s : Mixer) (o : Outcome) (ls : List Listener) → IsDeafTo o.attendance →

@@ -1,6 +1,6 @@
 -- The engine that a setup opens.
 use Rattle.std.proofs.Common.{◌≡◌, ◌∙◌, ℕ, ◌≤◌, Bool, true, false, cond, List, [], Some, None}
-use Rattle.std.proofs.Common.{IsTrue, refl, sym, ap, length, arith}
+use Rattle.std.proofs.Common.{IsTrue, refl, ap, length, arith}
 use Rattle.mix_audience.specs.Listeners.{waiting_for}
 use Rattle.mix_base.specs.declared.rate.Rate.{Rate}
 use Rattle.mix_model.specs.declared.action.Entry.{Entry}
@@ -73,11 +73,10 @@ pub head_is : (c : Collection) (journal : List Entry) (m : Mixed) (count : ℕ) 
     head_like c.i420 c.tracks canvas rate recording
     ≡ head_of (state_after (start_of c) journal).studio recording
 head_is c journal m count canvas rate recording replayed sized rated =
-    ap (λ x. head_like x c.tracks canvas rate recording)
-    (sym (replayed.i420 ∙ (start_format c).0))
-    ∙ ap (λ x. head_like m.mixer.studio.i420 x canvas rate recording)
-    (sym (replayed.tracks ∙ (start_format c).1))
-    ∙ ap (λ x. head_like m.mixer.studio.i420 m.mixer.studio.tracks x rate recording) sized
-    ∙ ap (λ x. head_like m.mixer.studio.i420 m.mixer.studio.tracks m.mixer.studio.canvas x recording)
-    rated
-    ∙ ap (λ (s : Mixer). head_of s.studio recording) replayed.state
+    rw (
+      ← replayed.state,
+      replayed.i420 ∙ (start_format c).0,
+      replayed.tracks ∙ (start_format c).1,
+      sized,
+      rated,
+    ) refl

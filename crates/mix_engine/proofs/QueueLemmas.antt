@@ -26,7 +26,7 @@ use Rattle.mix_engine.specs.Replayed.{IsQueued}
 use Rattle.mix_engine.specs.StepAnswers.{speech, told_to}
 use Rattle.mix_engine.specs.Told.{Happened, happened, taken, takes, is_entry_of, since, told_at}
 use Rattle.mix_engine.proofs.Actors.{IsOfActor}
-use Rattle.mix_engine.proofs.Listening.{ended_if, found_conn, queued_if}
+use Rattle.mix_engine.proofs.Listening.{ended_number, found_conn, queued_number}
 
 queue_on : (number : ℕ) (q : List Event) (hs : List Happened) (h : Happened) →
     queue_from number q (hs ++ h ∷ []) ≡ queue_after number (queue_from number q hs) h
@@ -34,7 +34,7 @@ queue_on number q [] h = refl
 queue_on number q (k ∷ hs) h = queue_on number (queue_after number q k) hs h
 
 -- the queue after one entry more
-pub queue_more : (number : ℕ) (hs : List Happened) (h : Happened) →
+queue_more : (number : ℕ) (hs : List Happened) (h : Happened) →
     queue number (hs ++ h ∷ []) ≡ queue_after number (queue number hs) h
 queue_more number hs h = queue_on number [] hs h
 
@@ -76,18 +76,18 @@ none_own number (h ∷ hs) =
     unowned number h hs (is_entry_of number h) (list_any (is_entry_of number) hs)
 
 -- the queue is what the connection takes of the entries after its last one
-pub queue_since : (number : ℕ) (hs : List Happened) →
+queue_since : (number : ℕ) (hs : List Happened) →
     queue number hs ≡ flat_map (taken number) (since number hs)
 queue_since number hs = since_from number [] hs ∙ none_own number hs
 
 -- the queue, what the connection takes of an entry, and what is said there, are what it is told
 pub told_is : (number : ℕ) (before : List Happened) (h : Happened) →
     told_at number before h ≡ map OfEvent (queue number before ++ taken number h) ++ h.said
-told_is number before h = ap (λ events. map OfEvent events ++ h.said)
-    (flat_map-append (taken number) (since number before) (h ∷ [])
-    ∙ ap (λ events. flat_map (taken number) (since number before) ++ events)
-    (append-nil (taken number h))
-    ∙ ap (λ events. events ++ taken number h) (sym (queue_since number before)))
+told_is number before h = rw (
+  flat_map-append (taken number) (since number before) (h ∷ []),
+  append-nil (taken number h),
+  queue_since number before,
+) refl
 
 -- what waits after a change of each listener that leaves the numbers as they are
 waits_one : (number : ℕ) (f : Listener → Listener) (waits : Listener → List Event) (l : Listener)
@@ -109,15 +109,6 @@ waits_mapped number f waits same is (l ∷ ls) =
     ∙ waits_one number f waits l (is_listener number l) (listener_at number ls)
     (listener_at number (map f ls)) (λ e. is l (eqb-true l.number number e))
     (waits_mapped number f waits same is ls)
-
-ended_number : (actor : Option ℕ) (l : Listener) → (ended actor l).number ≡ l.number
-ended_number actor l = elim (is_but actor l.number) as (λ b. (ended_if b l).number ≡ l.number)
-    [ true ↦ refl | false ↦ refl ]
-
-queued_number : (actor : Option ℕ) (events : List Event) (l : Listener) →
-    (queued actor events l).number ≡ l.number
-queued_number actor events l = elim (is_but actor l.number)
-    as (λ b. (queued_if b events l).number ≡ l.number) [ true ↦ refl | false ↦ refl ]
 
 -- whether a number is left out, told of a listener
 but_at : (actor : Option ℕ) (number : ℕ) (b : Bool) (l : Listener) → is_but actor number ≡ b →
@@ -210,14 +201,13 @@ leaves_stay number conn (l ∷ ls) other =
 others_stay : (number : ℕ) (actor : Option ℕ) (attendance : Attendance) (ls : List Listener) →
     IsOfActor attendance actor → is_but actor number ≡ false →
     listener_at number (attended attendance ls) ≡ listener_at number ls
-others_stay number actor att.Same ls is other = refl
 others_stay number actor (att.Joins conn challenge) ls is other =
     joins_stay number (new_listener conn challenge) ls (differs conn number actor is other)
 others_stay number actor (att.Identifies conn mask) ls is other =
     masks_stay number conn mask ls (differs conn number actor is other)
 others_stay number actor (att.Leaves conn) ls is other =
     leaves_stay number conn ls (differs conn number actor is other)
-others_stay number actor (att.Pends conn batches) ls is other = refl
+others_stay number actor _ ls is other = refl
 
 takes_same : (listener : Option Listener) (events : List Event) →
     option_map_or (λ (c : Connection). takes c events) (option_map conn_of listener) []
@@ -226,14 +216,10 @@ takes_same None events = refl
 takes_same (Some l) events = refl
 
 -- what a connection takes of an entry is what its listener takes
-pub taken_same : (number : ℕ) (m : Mixed) (o : Outcome) → m.mixer.conns ≡ map conn_of m.listeners →
+taken_same : (number : ℕ) (m : Mixed) (o : Outcome) → m.mixer.conns ≡ map conn_of m.listeners →
     taken number (happened m.mixer o) ≡ taken_by number m.listeners (told_of m.mixer o)
-taken_same number m o conns =
-    ap (λ cs. option_map_or (λ (c : Connection). takes c (told_of m.mixer o)) (conn_at number cs) [])
-    conns
-    ∙ ap (λ c. option_map_or (λ (k : Connection). takes k (told_of m.mixer o)) c [])
-    (found_conn number m.listeners)
-    ∙ takes_same (listener_at number m.listeners) (told_of m.mixer o)
+taken_same number m o conns = rw (conns, found_conn number m.listeners)
+    (takes_same (listener_at number m.listeners) (told_of m.mixer o))
 
 -- what waits after an outcome: nothing for the one that acted, and for another what waited, and then
 -- what it takes
@@ -257,39 +243,28 @@ pub queued_more : (m : Mixed) (o : Outcome) (hs : List Happened) →
     m.mixer.conns ≡ map conn_of m.listeners → IsOfActor o.attendance (actor_of o.heading) →
     IsQueued hs m.listeners →
     IsQueued (hs ++ happened m.mixer o ∷ []) (listening m.mixer o m.listeners)
-queued_more m o hs conns actor waits number =
-    waits_after number (is_but (actor_of o.heading) number) m o actor refl
-    ∙ ap (λ q. cond (is_but (actor_of o.heading) number) []
-    (q ++ taken_by number m.listeners (told_of m.mixer o))) (waits number)
-    ∙ ap (λ events. cond (is_but (actor_of o.heading) number) [] (queue number hs ++ events))
-    (sym (taken_same number m o conns))
-    ∙ sym (queue_more number hs (happened m.mixer o))
+queued_more m o hs conns actor waits number = rw (
+  waits_after number
+      (is_but (actor_of o.heading) number) m o actor refl,
+  waits number,
+  ← taken_same number m o conns,
+  queue_more number hs (happened m.mixer o),
+) refl
 
 told_same : (number : ℕ) (before : List Happened) (m : Mixed) (o : Outcome) →
     m.mixer.conns ≡ map conn_of m.listeners → IsQueued before m.listeners →
     told_to number m o ≡ told_at number before (happened m.mixer o)
-told_same number before m o conns waits =
-    ap (λ q. map OfEvent (q ++ taken_by number m.listeners (told_of m.mixer o)) ++ o.said)
-    (waits number)
-    ∙ ap (λ events. map OfEvent (queue number before ++ events) ++ o.said)
-    (sym (taken_same number m o conns))
-    ∙ sym (told_is number before (happened m.mixer o))
+told_same number before m o conns waits = rw (
+  waits number,
+  ← taken_same number m o conns,
+  told_is number before (happened m.mixer o),
+) refl
 
 -- what is told with a reply is what the history tells
 pub speech_is : (reply : Heading) (before : List Happened) (m : Mixed) (o : Outcome) →
     m.mixer.conns ≡ map conn_of m.listeners → IsQueued before m.listeners →
     speech reply m o ≡ told_by reply before (happened m.mixer o)
-speech_is heading.Full before m o conns waits = refl
-speech_is (heading.Gone conn) before m o conns waits = refl
-speech_is (heading.Left conn) before m o conns waits = refl
 speech_is (heading.Told conn) before m o conns waits = told_same conn before m o conns waits
 speech_is (heading.Closed conn code) before m o conns waits =
     told_same conn before m o conns waits
-speech_is (heading.Frame number recording) before m o conns waits = refl
-speech_is heading.NoFrame before m o conns waits = refl
-speech_is (heading.Block number recording) before m o conns waits = refl
-speech_is (heading.FrameGone number) before m o conns waits = refl
-speech_is heading.NoSuchFrame before m o conns waits = refl
-speech_is (heading.Destroyed serial) before m o conns waits = refl
-speech_is heading.Nothing before m o conns waits = refl
-speech_is heading.NotBuilt before m o conns waits = refl
+speech_is _ before m o conns waits = refl

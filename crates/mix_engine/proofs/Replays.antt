@@ -1,11 +1,10 @@
 -- What ties an engine to its journal, after one entry more.
-use Rattle.std.proofs.Common.{◌≡◌, ◌∙◌, ℕ, ◌+◌, ◌≤◌, ◌<◌, Bool, true, false, cond, not, IsTrue}
+use Rattle.std.proofs.Common.{◌≡◌, ◌∙◌, ℕ, ◌+◌, ◌≤◌, ◌<◌, true, false, IsTrue}
 use Rattle.std.proofs.Common.{List, [], ◌∷◌, ◌++◌, length, refl, sym, ap, subst, arith}
 use Rattle.std.proofs.lemmas.Bool.{ltb-true, leb-true}
-use Rattle.std.proofs.lemmas.List.{length-append}
+use Rattle.std.proofs.lemmas.List.{length-append, map-append}
 use Rattle.std.proofs.lemmas.List.Sums.{sum_by_push}
 use Rattle.mix_base.specs.declared.limits.Limits.{Limits}
-use Rattle.mix_base.specs.declared.numbers.PassNo.{PassNo}
 use Rattle.mix_model.specs.State.{StudioState}
 use Rattle.mix_model.specs.declared.action.Action.{Action}
 use Rattle.mix_model.specs.declared.action.Entry.{Entry}
@@ -13,28 +12,25 @@ use Rattle.mix_events.specs.declared.reply.Answer.{Answer}
 use Rattle.mix_events.specs.declared.said.Said.{Said}
 use Rattle.mix_model.proofs.SetLemmas.{and_first, and_second}
 use Rattle.mix_shape.specs.Refused.{are_limits}
-use Rattle.mix_engine.specs.declared.heading.Heading.{Heading}
 use Rattle.mix_engine.specs.declared.step_answer.StepAnswer.{StepAnswer}
 use Rattle.mix_engine.specs.Answers.{actions_of, answer_to, answered, due_after, state_after, trace}
 use Rattle.mix_engine.specs.Answers.{Agrees, Replies}
-use Rattle.mix_engine.specs.Built.{is_built}
-use Rattle.mix_engine.specs.Engines.{EngineModel, IsLineOf, acted, has_room, line_bytes, present}
-use Rattle.mix_engine.specs.Engines.{text_bytes, with_entry}
+use Rattle.mix_engine.specs.Engines.{EngineModel, IsLineOf, has_room, line_bytes}
+use Rattle.mix_engine.specs.Engines.{text_bytes}
 use Rattle.mix_engine.specs.Headings.{is_unbuilt}
 use Rattle.mix_engine.specs.Laws.{RequestsAreProper}
 use Rattle.mix_engine.specs.Mixer.{Mixer}
-use Rattle.mix_engine.specs.Mixings.{IsMixing, Mixed, mixed_after}
+use Rattle.mix_engine.specs.Mixings.{IsMixing, Mixed}
 use Rattle.mix_engine.specs.Numbers.{NumbersWithin}
 use Rattle.mix_engine.specs.Outcomes.{Outcome}
 use Rattle.mix_engine.specs.Replayed.{IsQueued, Replayed}
-use Rattle.mix_engine.specs.Step.{after, outcome}
+use Rattle.mix_engine.specs.Step.{after, outcome, step, steps}
 use Rattle.mix_engine.specs.StepAnswers.{HasShot, HasVoices, Stepped}
 use Rattle.mix_engine.specs.Told.{happened}
 use Rattle.mix_engine.proofs.Actors.{outcome_acts}
 use Rattle.mix_engine.proofs.Growth.{GoesOn, items_within, numbers_on, outcome_goes_on}
 use Rattle.mix_engine.proofs.QueueLemmas.{queued_more, speech_is}
 use Rattle.mix_engine.proofs.Shapes.{built_after, left_by}
-use Rattle.mix_engine.proofs.Traces.{state_longer, trace_longer}
 
 -- ---- limits
 
@@ -58,70 +54,64 @@ room_fits e action line room limits counted =
     let same : line ≡ line_bytes action = omega arith in
     (same, omega arith, omega arith)
 
+-- ---- one entry more
+
+steps_more : (s : Mixer) (actions : List Action) (action : Action) →
+    steps s (actions ++ action ∷ []) ≡ step (steps s actions) action
+steps_more s [] action = refl
+steps_more s (a ∷ actions) action = steps_more (step s a) actions action
+
+trace_more : (s : Mixer) (actions : List Action) (action : Action) →
+    trace s (actions ++ action ∷ [])
+    ≡ trace s actions ++ happened (steps s actions) (outcome (steps s actions) action) ∷ []
+trace_more s [] action = refl
+trace_more s (a ∷ actions) action =
+    ap (λ l. happened s (outcome s a) ∷ l) (trace_more (step s a) actions action)
+
+actions_more : (journal : List Entry) (e : Entry) →
+    actions_of (journal ++ e ∷ []) ≡ actions_of journal ++ e.action ∷ []
+actions_more journal e = map-append (λ (f : Entry). f.action) journal (e ∷ [])
+
+-- one entry more is one step more
+state_longer : (start : Mixer) (journal : List Entry) (e : Entry) →
+    state_after start (journal ++ e ∷ []) ≡ step (state_after start journal) e.action
+state_longer start journal e =
+    ap (steps start) (actions_more journal e) ∙ steps_more start (actions_of journal) e.action
+
+-- and at the end of the trace stands what happened then
+trace_longer : (start : Mixer) (journal : List Entry) (e : Entry) →
+    trace start (actions_of (journal ++ e ∷ []))
+    ≡ trace start (actions_of journal)
+    ++ happened (state_after start journal) (outcome (state_after start journal) e.action) ∷ []
+trace_longer start journal e =
+    ap (trace start) (actions_more journal e) ∙ trace_more start (actions_of journal) e.action
+
 -- ---- numbers
 
 numbers_more : (s : Mixer) (low high : ℕ) → low ≤ high → NumbersWithin low s →
     NumbersWithin high s
-numbers_more s low high more numbers =
-    let conns : s.next_conn ≤ low = numbers.conns in
-    let serials : s.studio.graph.next_serial ≤ low = numbers.serials in
-    let holds : s.studio.graph.next_hold ≤ low = numbers.holds in
-    let watches : s.studio.graph.next_watch ≤ low = numbers.watches in
-    let clock : s.studio.graph.clock ≤ low = numbers.clock in
-    let audio : s.studio.audio_clock ≤ low = numbers.audio in
-    record {
-      conns = omega arith;
-      serials = omega arith;
-      items = items_within s.studio.graph low high more numbers.items;
-      holds = omega arith;
-      watches = omega arith;
-      clock = omega arith;
-      audio = omega arith;
-    }
+numbers_more s low high more numbers = record {
+  conns = omega (arith, numbers.conns);
+  serials = omega (arith, numbers.serials);
+  items = items_within s.studio.graph low high more numbers.items;
+  holds = omega (arith, numbers.holds);
+  watches = omega (arith, numbers.watches);
+  clock = omega (arith, numbers.clock);
+  audio = omega (arith, numbers.audio);
+}
 
 -- the next numbers can still be given: no number runs ahead of the entries, and those are few
-pub numbers_left : (e : EngineModel) (m : Mixed) (count : ℕ) →
+pub numbers_left : (e : EngineModel) {m : Mixed} {count : ℕ} →
     Replayed e.start e.journal m count → IsTrue (are_limits e.limits) →
     length e.journal ≤ e.limits.turns → NumbersWithin 4294967294 m.mixer
-numbers_left e m count replayed limits few =
+numbers_left e {m} replayed limits few =
     let turns : e.limits.turns ≤ 16777216 = turns_within e.limits limits in
     numbers_more m.mixer (4096 + length e.journal) 4294967294 (omega arith) replayed.numbers
 
 -- ---- an action that is built
 
--- it is built where its answer isn't that it isn't
-pub built_is : (s : Mixer) (action : Action) (heading : Heading) (b : Bool) →
-    heading ≡ (outcome s action).heading → is_unbuilt heading ≡ b → is_built s action ≡ not b
-built_is s action heading b same is = ap (λ h. not (is_unbuilt h)) (sym same) ∙ ap not is
-
--- what isn't built leaves all as it is
-pub unbuilt_stays : (old new : Mixed) (answer : StepAnswer) (o : Outcome) →
-    Stepped old new answer o → is_unbuilt answer.heading ≡ true → new ≡ old
-unbuilt_stays old new answer o stepped unbuilt =
-    stepped.state ∙ stays (ap is_unbuilt (sym stepped.heading) ∙ unbuilt)
-  where
-    stays : is_unbuilt o.heading ≡ true → mixed_after old o ≡ old
-    stays is = rw is refl
-
--- an engine's state is that of its parts
-pub built_at : (start : Mixer) (journal : List Entry) (m : Mixed) (count : ℕ) (action : Action)
-    (heading : Heading) (b : Bool) → Replayed start journal m count →
-    heading ≡ (outcome m.mixer action).heading → is_unbuilt heading ≡ b →
-    is_built (state_after start journal) action ≡ not b
-built_at start journal m count action heading b replayed same is =
-    subst (λ s. is_built s action ≡ not b) replayed.state (built_is m.mixer action heading b same is)
-
-pub acted_so : (e : EngineModel) (from : PassNo) (action : Action) →
-    is_built (present e) action ≡ true → acted from action e ≡ with_entry from action e
-acted_so e from action built =
-    ap (λ b. cond b (with_entry from action e) e) built
-
-pub acted_not : (e : EngineModel) (from : PassNo) (action : Action) →
-    is_built (present e) action ≡ false → acted from action e ≡ e
-acted_not e from action unbuilt = ap (λ b. cond b (with_entry from action e) e) unbuilt
-
-module _ (start : Mixer) (old new : Mixed) (journal : List Entry) (e : Entry) (answer : StepAnswer)
-    (count : ℕ) (replayed : Replayed start journal old count) (mixing : IsMixing old)
+module _ {start : Mixer} {old new : Mixed} {journal : List Entry} {answer : StepAnswer} {count : ℕ}
+    (e : Entry) (replayed : Replayed start journal old count) (mixing : IsMixing old)
     (stepped : Stepped old new answer (outcome old.mixer e.action))
     (built : is_unbuilt answer.heading ≡ false) where
   heading_built : is_unbuilt (outcome old.mixer e.action).heading ≡ false
@@ -138,19 +128,14 @@ module _ (start : Mixer) (old new : Mixed) (journal : List Entry) (e : Entry) (a
 
   -- and what waits is the queue after it
   queues_on : IsQueued (trace start (actions_of (journal ++ e ∷ []))) new.listeners
-  queues_on = subst (λ hs. IsQueued hs new.listeners) (sym (trace_longer start journal e))
-      (subst (λ s. IsQueued (trace start (actions_of journal)
-      ++ happened s (outcome s e.action) ∷ []) new.listeners) replayed.state
-      (subst (λ (m : Mixed). IsQueued (trace start (actions_of journal)
-      ++ happened old.mixer (outcome old.mixer e.action) ∷ []) m.listeners) (sym left)
+  queues_on = rw (trace_longer start journal e, ← replayed.state, left)
       (queued_more old (outcome old.mixer e.action) (trace start (actions_of journal))
-      mixing.conns (outcome_acts old.mixer e.action) replayed.queues)))
+      mixing.conns (outcome_acts old.mixer e.action) replayed.queues)
 
   -- numbers go on
   on : RequestsAreProper → NumbersWithin 4294967294 old.mixer →
       GoesOn old.mixer new.mixer.studio new.mixer.next_conn
-  on proper numbers = subst (λ (m : Mixed). GoesOn old.mixer m.mixer.studio m.mixer.next_conn)
-      (sym left) (outcome_goes_on proper old.mixer mixing.shape numbers e.action)
+  on proper numbers = rw left (outcome_goes_on proper old.mixer mixing.shape numbers e.action)
 
   pub replays_more : (line : ℕ) → RequestsAreProper → NumbersWithin 4294967294 old.mixer →
       line ≡ line_bytes e.action → Replayed start (journal ++ e ∷ []) new (count + line)
@@ -178,29 +163,18 @@ module _ (start : Mixer) (old new : Mixed) (journal : List Entry) (e : Entry) (a
       Replies answer.heading found answer.said.items (due_after answer.heading new.mixer) a.reply) → a.stopping ≡ new.mixer.notes.stop →
       a.dying ≡ length new.mixer.studio.graph.dying →
       Agrees a (answer_to start journal e.action)
-  answers_agree a reply stopping dying =
-      let told : List Said = (answered old.mixer (trace start (actions_of journal)) o).told in
-      let shown : HasShot answer.heading old.mixer.studio answer.shot =
-      subst (λ h. HasShot h old.mixer.studio answer.shot) (sym stepped.heading) stepped.shot in
-      let sounds : HasVoices answer.heading old.mixer.studio answer.voices =
-      subst (λ h. HasVoices h old.mixer.studio answer.voices) (sym stepped.heading)
-      stepped.voices in
-      let replies : Replies o.heading old.mixer.studio answer.said.items
-      (due_after o.heading new.mixer) a.reply =
-      subst (λ h. Replies h old.mixer.studio answer.said.items (due_after h new.mixer) a.reply)
-      stepped.heading (reply old.mixer.studio shown sounds) in
-      let agree : Agrees a (answered old.mixer (trace start (actions_of journal)) o) = record {
-        reply = subst (λ t. Replies o.heading old.mixer.studio told (due_after o.heading t) a.reply)
-            (ap (λ (m : Mixed). m.mixer) stepped.state)
-            (subst (λ l. Replies o.heading old.mixer.studio l (due_after o.heading new.mixer) a.reply)
-            (stepped.said
-            ∙ speech_is o.heading (trace start (actions_of journal)) old o mixing.conns
-            replayed.queues) replies);
-        stopping = stopping ∙ ap (λ (m : Mixed). m.mixer.notes.stop) stepped.state;
-        dying = dying ∙ ap (λ (m : Mixed). length m.mixer.studio.graph.dying) stepped.state;
-      } in
-      subst (λ s. Agrees a (answered s (trace start (actions_of journal)) (outcome s e.action)))
-      replayed.state agree
+  answers_agree a reply stopping dying = rw (← replayed.state) (record {
+    reply = rw (
+      stepped.heading,
+      stepped.said,
+      speech_is o.heading
+          (trace start (actions_of journal)) old o mixing.conns replayed.queues,
+      ap (λ (m : Mixed). m.mixer) stepped.state,
+    ) at (reply old.mixer.studio
+        (rw stepped.heading stepped.shot) (rw stepped.heading stepped.voices));
+    stopping = stopping ∙ ap (λ (m : Mixed). m.mixer.notes.stop) stepped.state;
+    dying = dying ∙ ap (λ (m : Mixed). length m.mixer.studio.graph.dying) stepped.state;
+  })
     where
       o : Outcome
       o = outcome old.mixer e.action

@@ -13,24 +13,27 @@ use Rattle.mix_base.specs.Limits.{standard}
 use Rattle.mix_events.specs.Sayable.{IsSayableEvent}
 use Rattle.mix_fanout.specs.Lanes.{is_but}
 use Rattle.mix_model.specs.declared.event.Event.{Event}
+use Rattle.mix_model.specs.declared.notes.Note.{Note}
 use Rattle.mix_model.specs.declared.notes.Notes.{Notes}
+use Rattle.mix_events.specs.declared.said.Said.{Said}
 use Rattle.mix_model.specs.Shape.{ids_below}
 use Rattle.mix_model.specs.State.{StudioState}
 use Rattle.mix_model.specs.WholeShape.{StateShape, StudioShape, conn_numbers, hold_of, watch_of}
 use Rattle.mix_model.specs.WholeShape.{is_connection, is_noted}
 use Rattle.mix_model.proofs.SetLemmas.{and_both, or_right}
-use Rattle.mix_shape.proofs.NamedLemmas.{filter_length, ids_fewer, ids_more}
+use Rattle.mix_shape.proofs.GrownShape.{filter_length, ids_fewer, ids_more}
 use Rattle.mix_engine.specs.Connections as att
 use Rattle.mix_engine.specs.Connections.{Attendance, attending}
+use Rattle.mix_engine.specs.declared.heading.Heading.{Heading}
 use Rattle.mix_engine.specs.Headings.{actor_of, is_unbuilt}
 use Rattle.mix_engine.specs.Mixer.{Mixer, Connection}
 use Rattle.mix_engine.specs.Mixings.{Mixed, conn_of, mixed_of, attended, listening, mixed_after}
 use Rattle.mix_engine.specs.Mixings.{IsMixing}
-use Rattle.mix_engine.specs.Outcomes.{Outcome, told_of}
+use Rattle.mix_engine.specs.Outcomes.{Outcome, only, told_of}
 use Rattle.mix_engine.specs.Step.{rested}
 use Rattle.mix_engine.specs.Told.{takes}
-use Rattle.mix_engine.proofs.Listening.{IsBatchless, IsDeafTo, ended_if, queued_if, listens}
-use Rattle.mix_engine.proofs.Listening.{listening_all, told_heard}
+use Rattle.mix_engine.proofs.Listening.{IsBatchless, IsDeafTo, ended_if, ended_number, listens}
+use Rattle.mix_engine.proofs.Listening.{listening_all, queued_number, told_heard}
 
 -- ---- the numbers of the open connections
 
@@ -41,23 +44,14 @@ pub numbers_same : (ls : List Listener) → conn_numbers (map conn_of ls) ≡ nu
 numbers_same ls = map_same (λ (c : Connection). c.number) conn_of
     (λ (l : Listener). l.number) (λ l. refl) ls
 
-ended_number : (b : Bool) (l : Listener) → (ended_if b l).number ≡ l.number
-ended_number true l = refl
-ended_number false l = refl
-
-queued_number : (b : Bool) (events : List Event) (l : Listener) →
-    (queued_if b events l).number ≡ l.number
-queued_number true events l = refl
-queued_number false events l = refl
-
 -- telling changes no number
 told_numbers : (actor : Option ℕ) (events : List Event) (ls : List Listener) →
     numbers_of (map (ended actor) (map (queued actor events) ls)) ≡ numbers_of ls
 told_numbers actor events ls = map_same (λ (l : Listener). l.number) (ended actor)
-    (λ (l : Listener). l.number) (λ l. ended_number (is_but actor l.number) l)
+    (λ (l : Listener). l.number) (ended_number actor)
     (map (queued actor events) ls)
     ∙ map_same (λ (l : Listener). l.number) (queued actor events) (λ (l : Listener). l.number)
-    (λ l. queued_number (is_but actor l.number) events l) ls
+    (queued_number actor events) ls
 
 masked_number : (conn mask : ℕ) (l : Listener) → (with_mask conn mask l).number ≡ l.number
 masked_number conn mask l = elim (is_listener conn l)
@@ -108,12 +102,33 @@ pub record IsFit (s : Mixer) (o : Outcome) : Type 0 where
   pub watches_open :
       list_all (is_noted (conn_numbers (attending o.attendance s.conns))) o.notes.watches ≡ true
 
+-- what leaves notes, and holds and watches with them, fits where all that are open stay so
+pub kept_fit : {s : Mixer} → StateShape s → (a : Attendance) (reply : Heading) (said : List Said)
+    (events : List Event) (studio : StudioState) (next : ℕ) → StudioShape studio →
+    Attends s a next → IsDeafTo a → All IsSayableEvent events →
+    studio.graph.holds ≡ s.studio.graph.holds → studio.graph.watches ≡ s.studio.graph.watches →
+    ((notes : List Note) → list_all (is_noted (conn_numbers s.conns)) notes ≡ true →
+    list_all (is_noted (conn_numbers (attending a s.conns))) notes ≡ true) →
+    IsFit s (record (only s reply said) {
+      attendance = a;
+      events = events;
+      studio = studio;
+      next_conn = next;
+    })
+kept_fit {s} shape a reply said events studio next sound' is deaf sayable held watched open' = record {
+  studio = sound';
+  attends = is;
+  deaf = deaf;
+  sayable = sayable;
+  holds = shape.holds_noted ∙ sym held;
+  watches = shape.watches_noted ∙ sym watched;
+  holds_open = open' s.notes.holds shape.holds_open;
+  watches_open = open' s.notes.watches shape.watches_open;
+}
+
 batchless : (s : Mixer) (a : Attendance) (next : ℕ) → Attends s a next → IsBatchless a
-batchless s att.Same next is = tt
-batchless s (att.Joins conn challenge) next is = tt
-batchless s (att.Identifies conn mask) next is = tt
-batchless s (att.Leaves conn) next is = tt
 batchless s (att.Pends conn batches) next is = is
+batchless s _ next is = tt
 
 -- ---- the numbers after it
 
@@ -237,35 +252,26 @@ module _ (m : Mixed) (o : Outcome) (mixing : IsMixing m) (fit : IsFit m.mixer o)
     listeners = listening_all m.mixer o m.listeners fit.deaf fit.sayable mixing.listeners;
   }
 
--- ---- what the code has
+-- what is left is what an outcome leaves that fits
+pub record LeftBy (m : Mixed) (o : Outcome) (new : Mixed) : Type 0 where
+  pub fit : IsFit m.mixer o
+  pub is : new ≡ left_by m o
 
-abbrev whole : StudioState → Notes → Option (List ℕ × List ℕ) → List Connection → ℕ →
-    List Listener → Mixed
-whole studio notes secret conns n ls = record {
-  mixer = record {
-    studio = studio;
-    notes = notes;
-    secret = secret;
-    conns = conns;
-    next_conn = n;
-  };
-  listeners = ls;
-}
+-- so it is as a mixer should be
+pub sound : {m : Mixed} {o : Outcome} {new : Mixed} → IsMixing m → LeftBy m o new → IsMixing new
+sound {m} {o} {new} mixing left = subst IsMixing (sym left.is) (mixing_left m o mixing left.fit)
 
 -- the parts that are as an outcome says are what it leaves
-pub parts_left : (m : Mixed) (mixing : IsMixing m) (o : Outcome) → IsFit m.mixer o →
-    (studio : StudioState) (notes : Notes) (a : AudienceModel) (n : ℕ) → studio ≡ o.studio →
+pub parts_left : {m : Mixed} → IsMixing m → (o : Outcome) → IsFit m.mixer o →
+    {studio : StudioState} {notes : Notes} {n : ℕ} (a : AudienceModel) → studio ≡ o.studio →
     notes ≡ o.notes → n ≡ o.next_conn → a.secret ≡ m.mixer.secret →
     a.listeners ≡ map (ended (actor_of o.heading))
     (map (queued (actor_of o.heading) o.events) (attended o.attendance m.listeners)) →
-    mixed_of studio notes a n ≡ left_by m o
-parts_left m mixing o fit studio notes a n studio_is notes_are next_is secret is =
+    LeftBy m o (mixed_of studio notes a n)
+parts_left {m} mixing o fit {studio} {notes} {n} a studio_is notes_are next_is secret is =
     let heard : a.listeners ≡ listening m.mixer o m.listeners =
     is ∙ sym (told_heard m.mixer o m.listeners fit.deaf mixing.listeners) in
-    ap (λ x. whole x notes a.secret (map conn_of a.listeners) n a.listeners) studio_is
-    ∙ ap (λ x. whole o.studio x a.secret (map conn_of a.listeners) n a.listeners) notes_are
-    ∙ ap (λ x. whole o.studio o.notes a.secret (map conn_of a.listeners) x a.listeners) next_is
-    ∙ ap (λ x. whole o.studio o.notes x (map conn_of a.listeners) o.next_conn a.listeners) secret
-    ∙ ap (λ x. whole o.studio o.notes m.mixer.secret (map conn_of x) o.next_conn x) heard
-    ∙ ap (λ x. whole o.studio o.notes m.mixer.secret x o.next_conn
-    (listening m.mixer o m.listeners)) (sym (conns_after m o mixing fit))
+    let there : map conn_of a.listeners ≡ map (rested (actor_of o.heading) (told_of m.mixer o))
+    (attending o.attendance m.mixer.conns) =
+    ap (map conn_of) heard ∙ sym (conns_after m o mixing fit) in
+    record { fit = fit; is = cc }

@@ -1,9 +1,8 @@
 -- When an answer agrees with an entry of a history.
-use Rattle.std.specs.Prelude.{◌≡◌, ℕ, Bool, false, List, [], ◌∷◌, map, length}
-use Rattle.std.specs.Prelude.{Some, None, All, IsTrue}
+use Rattle.std.specs.Prelude.{◌≡◌, ℕ, ◌<◌, ◌^◌, Bool, false, List, [], ◌∷◌, map, length}
+use Rattle.std.specs.Prelude.{Some, None, IsTrue}
 use Rattle.std.specs.List.{list_all}
 use Rattle.std.specs.Option.{option_map_or}
-use Rattle.mix_events.specs.Sayings.{IsSayable}
 use Rattle.mix_model.specs.declared.action.Action.{Action}
 use Rattle.mix_model.specs.declared.action.Entry.{Entry}
 use Rattle.mix_events.specs.declared.said.Said.{Said}
@@ -91,6 +90,7 @@ answer_to start journal action =
 
 -- voices that can be mixed, and mix to the block of the studio
 pub record Sounds (found : StudioState) (number : ℕ) (voices : List Voice) : Type 0 where
+  pub early : number < 2 ^ 32
   pub mixable : IsTrue (list_all is_voice voices)
   pub block : mixed voices number ≡ block_at found number
 
@@ -112,11 +112,6 @@ Replies heading.NoSuchFrame found told due r = r ≡ reply.NoSuchFrame
 Replies (heading.Destroyed serial) found told due r = r ≡ reply.Destroyed serial
 Replies heading.Nothing found told due r = r ≡ reply.Nothing
 Replies heading.NotBuilt found told due r = ⊥
-
--- each text that is told can be said
-abbrev pub IsSayableReply : Reply → Type 0
-IsSayableReply (reply.Told conn said close due) = All IsSayable said
-IsSayableReply _ = Unit {0}
 
 -- the answer agrees with the entry
 pub record Agrees (answer : Answer) (entry : Answered) : Type 0 where

@@ -19,6 +19,7 @@ use Rattle.mix_requests.specs.Outcomes.{done_with}
 use Rattle.mix_requests.specs.Table.{type_of}
 use Rattle.mix_studio.specs.Studios.{StudioModel}
 use Rattle.mix_req_scenes.specs.Scenes as scenes
+use Rattle.mix_req_items.specs.Items as items
 use Rattle.mix_req_inputs.specs.Inputs as inputs
 use Rattle.mix_req_outputs.specs.Outputs as outputs
 use Rattle.mix_engine.specs.declared.heading.Heading.TheVariants.{Told}
@@ -29,11 +30,11 @@ use Rattle.mix_engine.specs.Outcomes.{Outcome, only, unbuilt}
 abbrev pub alone : ℕ → Caller
 alone conn = record { conn = conn; mode = Single }
 
--- the line of a request; a request that isn't built yet has none, as those on items have none so far. A
--- type that the mixer isn't to know is 204
+-- the line of a request; a request that isn't built yet has none. A type that the mixer isn't to know
+-- is 204
 abbrev pub line_of : StudioState → Notes → Caller → Body → RequestType → Option (Result Effect ℕ)
 line_of s notes caller body (Scene request) = scenes.scene_line s notes caller body request
-line_of s notes caller body (Item request) = None
+line_of s notes caller body (Item request) = items.item_line s notes caller body request
 line_of s notes caller body (Input request) = inputs.input_line s notes caller body request
 line_of s notes caller body (Output request) = outputs.output_line s notes caller body request
 line_of s notes caller body Unknown = Some (Err 204)
@@ -50,7 +51,7 @@ line_asked s notes caller ask = line_named s notes caller ask.body (option_map t
 -- the most events of a request, those of the settling aside
 abbrev pub most_events : RequestType → ℕ
 most_events (Scene request) = scenes.most_events request
-most_events (Item request) = 0
+most_events (Item request) = items.most_events request
 most_events (Input request) = inputs.most_events request
 most_events (Output request) = outputs.most_events request
 most_events Unknown = 0

@@ -2,6 +2,7 @@
 ghost use Rattle.mix_engine.specs.Laws.{QueueIsTold, RequestsAreProper};
 
 use mix_req_inputs::laws::input_requests_are_proper;
+use mix_req_items::laws::item_requests_are_proper;
 use mix_req_outputs::laws::output_requests_are_proper;
 use mix_req_scenes::laws::scene_requests_are_proper;
 
@@ -17,6 +18,7 @@ pub fn requests_are_proper()
     ensures proper { RequestsAreProper }
 {
     scene_requests_are_proper();
+    item_requests_are_proper();
     input_requests_are_proper();
     output_requests_are_proper();
 }

@@ -9,6 +9,7 @@ ghost use Rattle.mix_engine.specs.Requests.{DoesAsk, alone, line_asked, line_nam
 use mix_base::{ConnId, Json, NoMemory};
 use mix_model::{Ask, Body, Done, Notes};
 use mix_req_inputs as inputs;
+use mix_req_items as items;
 use mix_req_outputs as outputs;
 use mix_req_scenes as scenes;
 use mix_requests::{Caller, Events, Mode, Refused, RequestType, done, type_text};
@@ -31,9 +32,10 @@ pub fn most_events(request: Option<RequestType>) -> u32
 {
     match request {
         Some(RequestType::Scene(request)) => scenes::most_events(request),
+        Some(RequestType::Item(request)) => items::most_events(request),
         Some(RequestType::Input(request)) => inputs::most_events(request),
         Some(RequestType::Output(request)) => outputs::most_events(request),
-        Some(RequestType::Item(_)) | Some(RequestType::Unknown) | None => 0,
+        Some(RequestType::Unknown) | None => 0,
     }
 }
 
@@ -107,7 +109,9 @@ fn answer(
         Some(RequestType::Scene(request)) => {
             scenes::answer(alloc, studio, notes, caller, request, body, events)
         }
-        Some(RequestType::Item(_)) => None,
+        Some(RequestType::Item(request)) => {
+            items::answer(alloc, studio, notes, caller, request, body, events)
+        }
         Some(RequestType::Input(request)) => {
             inputs::answer(alloc, studio, notes, caller, request, body, events)
         }

@@ -36,7 +36,7 @@ impl Graph {
         match self.sources.add_item(self.alloc, parent, child, &spec) {
             Err(_) => Err(GraphFault::NoMemory),
             Ok(id) => {
-                self.tally.settle(&mut self.sources);
+                self.tally.settle_living(&mut self.sources);
                 Ok(id)
             }
         }
@@ -67,7 +67,7 @@ impl Graph {
         {
             Err(_) => Err(GraphFault::NoMemory),
             Ok(copy) => {
-                self.tally.settle(&mut self.sources);
+                self.tally.settle_living(&mut self.sources);
                 Ok(copy)
             }
         }

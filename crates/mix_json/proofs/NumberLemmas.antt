@@ -1,6 +1,8 @@
 -- What the text of a number says.
-use Rattle.std.proofs.Common.{◌≡◌, ◌∙◌, ◌<◌, ◌≤◌, ◌^◌, ◌++◌, ◌==◌, sym, ap, refl, ℕ, ℤ, pos, neg_ℤ, List, [], drop, length, slice_index, true, false, Option, Some, None, option_map, append-nil, lt-ltb, le-leb, arith}
+use Rattle.std.proofs.Common.{◌≡◌, ◌∙◌, ◌<◌, ◌≤◌, ◌^◌, ◌++◌, ◌∷◌, ◌==◌, sym, ap, refl, ℕ, ℤ, pos, neg_ℤ, List, [], drop, length, slice_index, true, false, Option, Some, None, option_map, append-nil, lt-ltb, le-leb, arith}
 use Rattle.std.specs.Str.Parse.{digits_value, AllDigits}
+use Rattle.std.proofs.lemmas.Bool.{ne_eqb}
+use Rattle.std.proofs.lemmas.Str.Parse.{digit_from_value}
 use Rattle.fast_float.specs.Text.{scan, Parts, digits_of, IsWellFormed}
 use Rattle.fast_float.proofs.Writing.{scan-text_of}
 use Rattle.serde_json.specs.Data.{Num}
@@ -46,6 +48,15 @@ pub digits_with_sign : (ds : List ℕ) → AllDigits 10 ds → 0 < length ds →
 digits_with_sign ds all some above small =
     let fits : digits_value 10 ds ≤ 2 ^ 63 = omega arith in
     rw (scanned ds all, integer ds some, value_is ds) (rw (lt-ltb _ _ above, le-leb _ _ fits))
+
+-- no digit is a sign
+unsigned : (s : List ℕ) → AllDigits 10 s → 0 < length s → (slice_index s 0 == 45) ≡ false
+unsigned [] all some = absurd (omega arith)
+unsigned (c ∷ cs) all some = ne_eqb _ _ (λ e. omega (arith, digit_from_value c all.0))
+
+-- a text of digits alone is that number
+pub short : (s : List ℕ) → 0 < length s → AllDigits 10 s → digits_value 10 s < 2 ^ 63 → option_map as_i64 (number_of s) ≡ Some (Some (pos (digits_value 10 s)))
+short s some all small = sym (without_sign s (unsigned s all some)) ∙ digits_alone s all some small
 
 -- ---- what is seen of it
 

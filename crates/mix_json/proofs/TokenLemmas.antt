@@ -1,6 +1,6 @@
 -- What the tokens stand for, a token at a time: each value by its first token, a list and an object
 -- by their first item and member.
-use Rattle.std.proofs.Common.{◌≡◌, ◌∙◌, sym, ap, refl, ℕ, zero, suc, ◌-◌, ◌<◌, ◌≤◌, List, [], ◌∷◌, ◌++◌, length, Option, Some, None, option_map, option_and_then, append_assoc, append-nil, arith}
+use Rattle.std.proofs.Common.{◌≡◌, ◌∙◌, sym, ap, refl, ℕ, ℤ, zero, suc, ◌-◌, ◌<◌, ◌≤◌, List, [], ◌∷◌, ◌++◌, length, Option, Some, None, option_map, option_and_then, append_assoc, append-nil, arith}
 use Rattle.std.specs.Option.{unwrap_or}
 use Rattle.json.specs.Token.{Token}
 use Rattle.json.specs.Json as tree
@@ -239,3 +239,14 @@ value_by_token depth (Token.number s) ts = ap (converted seen) (value_is depth (
 value_by_token depth (Token.boolean b) ts = ap (converted seen) (value_is depth (Token.boolean b ∷ ts))
 value_by_token depth Token.null ts = ap (converted seen) (value_is depth (Token.null ∷ ts))
 value_by_token depth Token.bad ts = ap (converted seen) (value_is depth (Token.bad ∷ ts))
+
+-- ---- short values
+
+-- a whole number
+pub int_by_token : (depth : ℕ) (s : List ℕ) (n : ℤ) (ts : List Token) → number_seen s ≡ Some (json.Int n) → value_at depth (Token.number s ∷ ts) ≡ Some (json.Int n, ts)
+int_by_token depth s n ts e = value_by_token depth (Token.number s) ts ∙ ap (option_map (λ v. (v, ts))) e
+
+-- an empty list
+pub nothing_by_token : (depth : ℕ) (ts r : List Token) → 0 < depth → after_end_array ts ≡ Some r → value_at depth (Token.begin_array ∷ ts) ≡ Some (json.List [], r)
+nothing_by_token depth ts r inner over =
+    list_by_token depth ts ∙ ap (parse_map (λ vs. json.List vs)) (inside_is items_at depth ts inner ∙ no_more_items (depth - 1) ts r over)

@@ -1,6 +1,6 @@
 //! From the text of a number to its value.
 ghost use Rattle.std.specs.Prelude.{◌≡◌, ◌==◌, ◌<◌, ◌^◌, length, option_map, pos, slice_index};
-ghost use Rattle.std.specs.Prelude.{IfSome, IsTrue, true, false};
+ghost use Rattle.std.specs.Prelude.{IfSome, IsTrue, Some, true, false};
 ghost use Rattle.std.specs.Str.Parse.{digits_value, AllDigits};
 ghost use Rattle.fast_float.specs.Text.{scan};
 ghost use Rattle.serde_json.specs.Find.{as_i64};
@@ -27,6 +27,15 @@ pub(crate) fn number(text: &str) -> Option<Option<i64>>
     } else {
         positive(bytes)
     }
+}
+
+/// The whole number that a text of at most 18 digits is.
+#[inline(always)]
+#[tactic(auto, using(crate::proofs::NumberLemmas::short))]
+pub(crate) fn short_number(text: &str) -> Option<i64>
+    ensures value { IfSome result (λ n. option_map as_i64 (number_of text.now) ≡ Some (Some n)) }
+{
+    few_digits(text.as_bytes())
 }
 
 /// The value of a whole number, or of a fraction.
@@ -71,6 +80,7 @@ fn negative(text: &[u8]) -> Option<Option<i64>>
 }
 
 /// The number of at most 18 digits that a text is.
+#[inline(always)]
 fn few_digits(text: &[u8]) -> Option<i64>
     ensures some { IfSome result (λ _. 0 < length text.now) }
     ensures digits { IfSome result (λ _. AllDigits 10 text.now) }

@@ -1,10 +1,11 @@
 //! From the tokens of a text to its value, in one pass.
-ghost use Rattle.std.specs.Prelude.{◌≡◌, ◌<◌, length, option_map, Some, None, IfOk, OnOk};
+ghost use Rattle.std.specs.Prelude.{◌≡◌, ◌<◌, ◌≤◌, ◌∷◌, length, option_map, Some, None, IfOk, IfSome, OnOk};
+ghost use Rattle.json.specs.Reads.{token_of};
 ghost use Rattle.serde_json.specs.Read.{read as read_text};
 ghost use Rattle.mix_json.specs.Reading.{of_data};
 ghost use Rattle.mix_json.specs.Tokens.{items_at, members_at, object_at, value_at};
 
-use crate::number::{number, whole_or_frac};
+use crate::number::{number, short_number, whole_or_frac};
 use crate::object::arranged;
 use crate::reading::JsonFault;
 use json::{Reader, Scratch, Token};
@@ -34,6 +35,7 @@ pub(crate) fn whole(alloc: Global, text: &str, scratch: &mut Scratch) -> Result<
 }
 
 /// The next value; at most so many lists and objects stand within one another.
+#[inline(always)]
 #[cycle(value)]
 fn value(alloc: Global, tokens: &mut Reader<'_>, depth: usize) -> Result<Json, JsonFault>
     ensures value { IfOk result (λ v. value_at depth tokens.old ≡ Some (v, tokens.new)) }
@@ -43,6 +45,54 @@ fn value(alloc: Global, tokens: &mut Reader<'_>, depth: usize) -> Result<Json, J
     let Some(token) = tokens.next() else {
         return Err(JsonFault::NotJson);
     };
+    match short_value(alloc, tokens, depth, token) {
+        Some(value) => Ok(value),
+        None => value_from(alloc, tokens, depth, token),
+    }
+}
+
+/// The value that begins with a token, where it's a whole number of a few digits or an empty list:
+/// long messages mostly hold such ones.
+#[inline(always)]
+fn short_value(
+    alloc: Global,
+    tokens: &mut Reader<'_>,
+    depth: usize,
+    token: Token<'_>,
+) -> Option<Json>
+    ensures value { IfSome result
+        (λ v. value_at depth (token_of token.entry ∷ tokens.old) ≡ Some (v, tokens.new)) }
+    ensures none { result ≡ None → tokens.new ≡ tokens.old }
+    ensures no_longer { length tokens.new ≤ length tokens.old }
+{
+    match token {
+        Token::Number(text) => match short_number(text) {
+            Some(whole) => Some(Json::Int(whole)),
+            None => None,
+        },
+        Token::BeginArray if depth > 0 => if tokens.take_end_array() {
+            Some(Json::List(ListOf::from_vec(Vec::new(alloc))))
+        } else {
+            None
+        },
+        _ => None,
+    }
+}
+
+/// The value that begins with a token.
+#[cycle(value)]
+fn value_from(
+    alloc: Global,
+    tokens: &mut Reader<'_>,
+    depth: usize,
+    token: Token<'_>,
+) -> Result<Json, JsonFault>
+    ensures value { IfOk result
+        (λ v. value_at depth (token_of token.entry ∷ tokens.old) ≡ Some (v, tokens.new)) }
+    ensures not_json { result ≡ Err JsonFault.NotJson
+        → value_at depth (token_of token.entry ∷ tokens.old) ≡ None }
+    ensures shorter { OnOk result (length tokens.new ≤ length tokens.old) }
+{
     match token {
         Token::Null => Ok(Json::Null),
         Token::Bool(truth) => Ok(Json::Bool(truth)),

@@ -16,12 +16,12 @@ use Rattle.mix_lanes.proofs.Sums.{product_small, product_below, screen_small, we
 abbrev pub Small : List ℕ → Type 0
 Small xs = Each1 (λ x. x ≤ 255) xs
 
--- quotients, by an addition a and a shift s
-module _ (a s : ℕ → ℕ → ℕ)
-    (is : (z : ℕ) → z ≤ 65025 → s (a (a z 128) (s (a z 128) 8)) 8 ≡ nearest_of z) where
+-- quotients, by an addition a, a multiplication m and a shift s of numbers that a cast c leaves as
+-- they are
+module _ (a m s : ℕ → ℕ → ℕ) (c : ℕ → ℕ)
+    (is : (z : ℕ) → z ≤ 65025 → s (m (c (a z 128)) 257) 16 ≡ nearest_of z) where
   pub nearest_lanes : (n : ℕ) (xs : List ℕ) → length xs ≡ n → Each1 (λ x. x ≤ 65025) xs →
-      zip2 s (zip2 a (zip2 a xs (replicate n 128))
-      (zip2 s (zip2 a xs (replicate n 128)) (replicate n 8))) (replicate n 8)
+      zip2 s (zip2 m (map c (zip2 a xs (replicate n 128))) (replicate n 257)) (replicate n 16)
       ≡ map nearest_of xs
   nearest_lanes zero [] long p = refl
   nearest_lanes (suc n) (x ∷ xs) long p =

@@ -9,7 +9,7 @@ use Rattle.std.specs.Simd.Lanes.{zip2, Each1}
 use Rattle.mix_model.specs.Blending.{faded}
 use Rattle.mix_lanes.specs.Quotients.{weighted}
 use Rattle.mix_lanes.proofs.LaneLemmas.{Small}
-use Rattle.mix_lanes.proofs.Sums.{unwrapped}
+use Rattle.mix_lanes.proofs.Sums.{unwrapped, unwrapped_wide}
 
 -- where n times m falls short of 2^24 by a rest below n, a product with m + 1 has the quotient by n
 product_divides : (n m rest q r : ℕ) → n ≤ 256 → 65536 ≤ m → rest < n → r < n → q ≤ 255 →
@@ -111,9 +111,6 @@ pub divided_fade : (t n : ℕ) (xs ys : List ℕ) →
 divided_fade t n [] ys = refl
 divided_fade t n (x ∷ xs) [] = refl
 divided_fade t n (x ∷ xs) (y ∷ ys) = ap (λ rest. faded t n x y ∷ rest) (divided_fade t n xs ys)
-
-unwrapped_wide : (z : ℕ) → z < 4294967296 → z % 4294967296 ≡ z
-unwrapped_wide z h = omega arith
 
 pub quotient_is : (n x r : ℕ) → 0 < n → n ≤ 256 → r ≡ 16777216 / n + 1 → x ≤ 255 * n + n / 2 →
     x * r % 4294967296 / 16777216 ≡ x / n

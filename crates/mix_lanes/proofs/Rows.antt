@@ -1,9 +1,8 @@
 -- Rows over others, some pixels more.
-use Rattle.std.proofs.Common.{◌≡◌, ℕ, zero, suc, ◌<◌, ◌≤◌, ◌+◌, ◌*◌, ◌%◌, List, [], ◌∷◌, ◌++◌, length}
-use Rattle.std.proofs.Common.{map, take, drop, get_or, slice_set, arith, refl, ap, ◌∙◌}
-use Rattle.std.specs.Prelude.{replicate}
+use Rattle.std.proofs.Common.{◌≡◌, ℕ, zero, suc, ◌≤◌, ◌+◌, ◌*◌, ◌%◌, List, [], ◌∷◌, ◌++◌, length}
+use Rattle.std.proofs.Common.{map, take, drop, get_or, slice_set, arith, refl, ap}
 use Rattle.std.proofs.lemmas.List.{append-nil, take_all, drop_all}
-use Rattle.std.specs.Simd.Lanes.{zip2, chunk, put_chunk, pick_l}
+use Rattle.std.specs.Simd.Lanes.{zip2, chunk, put_chunk}
 use Rattle.mix_model.specs.declared.kind.Blend.{Blend}
 use Rattle.mix_model.specs.Colours.{Colour, colour_at}
 use Rattle.mix_model.specs.Blending.{mode_over, channel_over, over, pixels_over}

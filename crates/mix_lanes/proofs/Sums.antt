@@ -4,18 +4,21 @@ use Rattle.std.proofs.lemmas.Nat.{mul-le}
 use Rattle.mix_model.specs.Blending.{product_of}
 use Rattle.mix_lanes.specs.Channels.{nearest_of}
 
--- two shifts are the division by 255
-shifted : (z : ℕ) → z ≤ 65025 → (z + 128 + (z + 128) / 256) / 256 ≡ nearest_of z
+-- a product with 257 and a shift are the division by 255
+shifted : (z : ℕ) → z ≤ 65025 → (z + 128) * 257 / 65536 ≡ nearest_of z
 shifted z h = omega arith
 
 pub unwrapped : (z : ℕ) → z < 65536 → z % 65536 ≡ z
 unwrapped z h = omega arith
 
+pub unwrapped_wide : (z : ℕ) → z < 4294967296 → z % 4294967296 ≡ z
+unwrapped_wide z h = omega arith
+
 pub nearest_is : (z : ℕ) → z ≤ 65025 →
-    ((z + 128) % 65536 + (z + 128) % 65536 / 256) % 65536 / 256 ≡ nearest_of z
+    (z + 128) % 65536 * 257 % 4294967296 / 65536 ≡ nearest_of z
 nearest_is z h = rw (
   unwrapped (z + 128) (omega arith),
-  unwrapped (z + 128 + (z + 128) / 256) (omega arith),
+  unwrapped_wide ((z + 128) * 257) (omega arith),
 ) (shifted z h)
 
 pub product_small : (x y : ℕ) → x ≤ 255 → y ≤ 255 → x * y ≤ 65025

@@ -12,8 +12,8 @@ pub(crate) fn nearest(sums: u16x16) -> u16x16
     requires { AreSums sums }
     ensures { result ≡ map nearest_of sums }
 {
-    let raised = sums + u16x16::splat(128);
-    (raised + (raised >> 8)) >> 8
+    let raised = (sums + u16x16::splat(128)).cast::<u32>();
+    (raised * u32x16::splat(257) >> 16).cast::<u16>()
 }
 
 /// The products of channels, the whole of a channel being 1.

@@ -1,11 +1,9 @@
 -- what is painted is a whole picture
 pub mod Painted
--- pieces that are written one behind the other
-pub mod Pieces
--- the text of pixels one after another
-pub mod Pixels
 -- how runs go on and end
 pub mod Runs
+-- whose voices a block has
+pub mod Sounding
 -- the words of a replay, each at its place
 pub mod Spoken
 -- which statuses are left

@@ -17,6 +17,11 @@ use Rattle.mix_events.specs.declared.said.Said.{Said}
 use Rattle.mix_events.specs.declared.reply.Reply.{Reply}
 use Rattle.mix_script.specs.Lines.{action_of}
 use Rattle.mix_script.specs.declared.bad_line.BadLine.{BadLine}
+use Rattle.mix_script.specs.declared.write_fault.WriteFault.{WriteFault}
+use Rattle.mix_script.specs.declared.write_fault.WriteFault.TheVariants as faults
+use Rattle.mix_script.specs.Output.{block_line, frame_line}
+use Rattle.mix_script.specs.Writing.{joined, Writes}
+use Rattle.mix_script.proofs.Written.{front_of_lines}
 use Rattle.mix_engine.specs.declared.heading.Heading.{Heading}
 use Rattle.mix_engine.specs.declared.heading.Heading.TheVariants as heading
 use Rattle.mix_events.specs.declared.reply.Answer.{Answer}
@@ -27,15 +32,14 @@ use Rattle.mix_engine.specs.Built.{is_built}
 use Rattle.mix_engine.specs.Mixer.{Mixer}
 use Rattle.mix_engine.specs.Answers.{answer_to, state_after, Answered, Replies}
 use Rattle.mix_engine.specs.Built.{is_built}
+use Rattle.mix_model.specs.declared.picture.Picture.{Picture}
+use Rattle.mix_model.specs.declared.picture.Block.{Block}
 use Rattle.mix_model.specs.Plans.{painted}
 use Rattle.mix_model.specs.State.{StudioState}
-use Rattle.mix_program.specs.Output.{Written, before, lines_by, lines_to, reply_lines, IsPaintable}
-use Rattle.mix_program.specs.PictureText.{frame_line}
+use Rattle.mix_program.specs.Output.{Written, before, lines_by, lines_to, shown_lines, IsShowable}
 use Rattle.mix_program.specs.Run.{run, turn, done, not_built, full, next_line, room_for, entry_of}
-use Rattle.mix_program.specs.Ends.{Goes, Stops, Ends, Turned, Follows, Puts, ended_by}
+use Rattle.mix_program.specs.Ends.{Goes, Stops, Ends, Turned, Follows, ended_by}
 use Rattle.mix_program.specs.Ends.{EndsAt, last_written}
-use Rattle.mix_program.specs.declared.running.Wrote.{Wrote}
-use Rattle.mix_program.specs.declared.running.Wrote.TheVariants as wrote
 use Rattle.mix_program.specs.declared.running.Finished.TheVariants.{Done}
 use Rattle.mix_program.specs.declared.running.Ended.{Ended}
 use Rattle.mix_program.specs.declared.running.Ended.TheVariants as ends
@@ -94,42 +98,42 @@ goes_ends ends.NoMemory old mid new all rest f g = stops_more old mid new all re
 -- a reply has the lines of what its entry is answered, on the canvas of the studio that was found
 reply_has : (canvas : ℕ × ℕ) (o : Heading) (found : StudioState) (told : List Said) (due : Bool)
     (reply : Reply) → canvas ≡ found.canvas → Replies o found told due reply →
-    reply_lines canvas reply ≡ lines_by o found told
-reply_has canvas heading.Full found told due reply same h = ap (reply_lines canvas) h
-reply_has canvas (heading.Gone conn) found told due reply same h = ap (reply_lines canvas) h
-reply_has canvas (heading.Left conn) found told due reply same h = ap (reply_lines canvas) h
-reply_has canvas (heading.Told conn) found told due reply same h = ap (reply_lines canvas) h
-reply_has canvas (heading.Closed conn code) found told due reply same h = ap (reply_lines canvas) h
+    shown_lines canvas reply ≡ lines_by o found told
+reply_has canvas heading.Full found told due reply same h = ap (shown_lines canvas) h
+reply_has canvas (heading.Gone conn) found told due reply same h = ap (shown_lines canvas) h
+reply_has canvas (heading.Left conn) found told due reply same h = ap (shown_lines canvas) h
+reply_has canvas (heading.Told conn) found told due reply same h = ap (shown_lines canvas) h
+reply_has canvas (heading.Closed conn code) found told due reply same h = ap (shown_lines canvas) h
 reply_has canvas (heading.Frame number recording) found told due reply same h =
-    ap (reply_lines canvas) h.2
-    ∙ ap (frame_line number) (ap (painted h.0 number) same ∙ h.1.picture)
-reply_has canvas heading.NoFrame found told due reply same h = ap (reply_lines canvas) h
+    ap (shown_lines canvas) h.2
+    ∙ ap (λ (p : Picture). frame_line number p ∷ []) (ap (painted h.0 number) same ∙ h.1.picture)
+reply_has canvas heading.NoFrame found told due reply same h = ap (shown_lines canvas) h
 reply_has canvas (heading.Block number recording) found told due reply same h =
-    ap (reply_lines canvas) h.2
-reply_has canvas (heading.FrameGone number) found told due reply same h = ap (reply_lines canvas) h
-reply_has canvas heading.NoSuchFrame found told due reply same h = ap (reply_lines canvas) h
-reply_has canvas (heading.Destroyed serial) found told due reply same h = ap (reply_lines canvas) h
-reply_has canvas heading.Nothing found told due reply same h = ap (reply_lines canvas) h
+    ap (shown_lines canvas) h.2 ∙ ap (λ (b : Block). block_line number b ∷ []) h.1.block
+reply_has canvas (heading.FrameGone number) found told due reply same h = ap (shown_lines canvas) h
+reply_has canvas heading.NoSuchFrame found told due reply same h = ap (shown_lines canvas) h
+reply_has canvas (heading.Destroyed serial) found told due reply same h = ap (shown_lines canvas) h
+reply_has canvas heading.Nothing found told due reply same h = ap (shown_lines canvas) h
 reply_has canvas heading.NotBuilt found told due reply same h = absurd h
 
--- the shot of a reply can be painted
-pub reply_paintable : (o : Heading) (found : StudioState) (told : List Said) (due : Bool)
-    (reply : Reply) → Replies o found told due reply → IsPaintable reply
-reply_paintable heading.Full found told due reply h = subst IsPaintable (sym h) tt
-reply_paintable (heading.Gone conn) found told due reply h = subst IsPaintable (sym h) tt
-reply_paintable (heading.Left conn) found told due reply h = subst IsPaintable (sym h) tt
-reply_paintable (heading.Told conn) found told due reply h = subst IsPaintable (sym h) tt
-reply_paintable (heading.Closed conn code) found told due reply h = subst IsPaintable (sym h) tt
-reply_paintable (heading.Frame number recording) found told due reply h =
-    subst IsPaintable (sym h.2) h.1.paintable
-reply_paintable heading.NoFrame found told due reply h = subst IsPaintable (sym h) tt
-reply_paintable (heading.Block number recording) found told due reply h =
-    subst IsPaintable (sym h.2) tt
-reply_paintable (heading.FrameGone number) found told due reply h = subst IsPaintable (sym h) tt
-reply_paintable heading.NoSuchFrame found told due reply h = subst IsPaintable (sym h) tt
-reply_paintable (heading.Destroyed serial) found told due reply h = subst IsPaintable (sym h) tt
-reply_paintable heading.Nothing found told due reply h = subst IsPaintable (sym h) tt
-reply_paintable heading.NotBuilt found told due reply h = absurd h
+-- what a reply shows can be painted, or mixed
+pub reply_showable : (o : Heading) (found : StudioState) (told : List Said) (due : Bool)
+    (reply : Reply) → Replies o found told due reply → IsShowable reply
+reply_showable heading.Full found told due reply h = subst IsShowable (sym h) tt
+reply_showable (heading.Gone conn) found told due reply h = subst IsShowable (sym h) tt
+reply_showable (heading.Left conn) found told due reply h = subst IsShowable (sym h) tt
+reply_showable (heading.Told conn) found told due reply h = subst IsShowable (sym h) tt
+reply_showable (heading.Closed conn code) found told due reply h = subst IsShowable (sym h) tt
+reply_showable (heading.Frame number recording) found told due reply h =
+    subst IsShowable (sym h.2) h.1.paintable
+reply_showable heading.NoFrame found told due reply h = subst IsShowable (sym h) tt
+reply_showable (heading.Block number recording) found told due reply h =
+    subst IsShowable (sym h.2) (record { early = h.1.early; mixable = h.1.mixable })
+reply_showable (heading.FrameGone number) found told due reply h = subst IsShowable (sym h) tt
+reply_showable heading.NoSuchFrame found told due reply h = subst IsShowable (sym h) tt
+reply_showable (heading.Destroyed serial) found told due reply h = subst IsShowable (sym h) tt
+reply_showable heading.Nothing found told due reply h = subst IsShowable (sym h) tt
+reply_showable heading.NotBuilt found told due reply h = absurd h
 
 turn_built : (start : Mixer) (journal : List Entry) (action : Action)
     (rest : List Entry → Written) → is_built (state_after start journal) action ≡ true →
@@ -152,14 +156,14 @@ pub turn_goes : (canvas : ℕ × ℕ) (start : Mixer) (journal after : List Entr
     is_built (state_after start journal) action ≡ true →
     (let a : Answered = answer_to start journal action in
     Replies a.heading a.found a.told a.due reply) →
-    after ≡ journal ++ entry_of journal action ∷ [] → new ≡ old ++ reply_lines canvas reply →
+    after ≡ journal ++ entry_of journal action ∷ [] → new ≡ old ++ joined (shown_lines canvas reply) →
     Goes old new (turn start journal (Ok action) rest) (rest after)
 turn_goes canvas start journal after action reply rest old new same built replies is_after held =
     record {
-      piece = reply_lines canvas reply;
+      piece = joined (shown_lines canvas reply);
       held = held;
       left = turn_built start journal action rest built
-          ∙ rw (is_after, reply_has canvas _ _ _ _ reply same replies) refl;
+          ∙ rw (is_after, ap joined (reply_has canvas _ _ _ _ reply same replies)) refl;
     }
 
 -- a front of the lines of an action is written
@@ -169,7 +173,7 @@ pub turn_stops : (canvas : ℕ × ℕ) (start : Mixer) (journal : List Entry) (a
     is_built (state_after start journal) action ≡ true →
     (let a : Answered = answer_to start journal action in
     Replies a.heading a.found a.told a.due reply) →
-    AppendsPrefix (reply_lines canvas reply) old new →
+    AppendsPrefix (joined (shown_lines canvas reply)) old new →
     Stops old new (turn start journal (Ok action) rest)
 turn_stops canvas start journal action reply rest old new same built replies h = record {
   front = h.0;
@@ -178,7 +182,7 @@ turn_stops canvas start journal action reply rest old new same built replies h =
     h.1.0 ++ (rest (journal ++ entry_of journal action ∷ [])).lines,
     ap (λ t. t.lines) (turn_built start journal action rest built)
         ∙ ap (λ l. l ++ (rest (journal ++ entry_of journal action ∷ [])).lines)
-        (sym (reply_has canvas _ _ _ _ reply same replies) ∙ h.1.1)
+        (sym (ap joined (reply_has canvas _ _ _ _ reply same replies)) ∙ h.1.1)
         ∙ append_assoc h.0 h.1.0 (rest (journal ++ entry_of journal action ∷ [])).lines,
   );
 }
@@ -295,7 +299,7 @@ was_tried found answer e e' number action is_found some agrees state =
 pub act_goes : (canvas : ℕ × ℕ) (answer : Answer) (e e' : EngineModel) (number : ℕ)
     (action : Action) (rest : List Entry → Written) (old new : List ℕ) →
     canvas ≡ (present e).studio.canvas → number ≡ next_line e.journal →
-    Tried answer number action e e' → new ≡ old ++ reply_lines canvas answer.reply →
+    Tried answer number action e e' → new ≡ old ++ joined (shown_lines canvas answer.reply) →
     Goes old new (turn e.start e.journal (Ok action) rest) (rest e'.journal)
 act_goes canvas answer e e' number action rest old new same is_next tried held =
     let place : number - 1 ≡ length e.journal = omega (arith, is_next) in
@@ -309,28 +313,29 @@ act_goes canvas answer e e' number action rest old new same is_next tried held =
 pub act_stops : (canvas : ℕ × ℕ) (answer : Answer) (e e' : EngineModel) (number : ℕ)
     (action : Action) (rest : List Entry → Written) (old new : List ℕ) →
     canvas ≡ (present e).studio.canvas → Tried answer number action e e' →
-    AppendsPrefix (reply_lines canvas answer.reply) old new →
+    AppendsPrefix (joined (shown_lines canvas answer.reply)) old new →
     Stops old new (turn e.start e.journal (Ok action) rest)
 act_stops canvas answer e e' number action rest old new same tried h = turn_stops canvas e.start
     e.journal action answer.reply rest old new same tried.built tried.agrees.reply h
 
 -- so it is of whatever was written of them
-act_turns : (w : Wrote) (canvas : ℕ × ℕ) (answer : Answer) (e e' : EngineModel) (number : ℕ)
+act_turns : (w : Result (Unit {0}) WriteFault) (canvas : ℕ × ℕ) (answer : Answer) (e e' : EngineModel) (number : ℕ)
     (action : Action) (old new : List ℕ) → canvas ≡ (present e).studio.canvas →
     number ≡ next_line e.journal → Tried answer number action e e' →
-    Puts w (reply_lines canvas answer.reply) old new →
+    Writes w (shown_lines canvas answer.reply) old new →
     Turned (ended_by w) old new (turn e.start e.journal (Ok action)) e'.journal
-act_turns wrote.All canvas answer e e' number action old new same is_next tried h = λ rest.
+act_turns (Ok written) canvas answer e e' number action old new same is_next tried h = λ rest.
     act_goes canvas answer e e' number action rest old new same is_next tried h
-act_turns wrote.WriteFault canvas answer e e' number action old new same is_next tried h =
+act_turns (Err faults.Failed) canvas answer e e' number action old new same is_next tried h =
     λ rest. act_stops canvas answer e e' number action rest old new same tried h
-act_turns wrote.NoMemory canvas answer e e' number action old new same is_next tried h =
-    λ rest. act_stops canvas answer e e' number action rest old new same tried h
+act_turns (Err faults.NoMemory) canvas answer e e' number action old new same is_next tried h =
+    λ rest. act_stops canvas answer e e' number action rest old new same tried
+    (front_of_lines (shown_lines canvas answer.reply) old new h)
 
-pub acted_turns : (w : Wrote) (ended : Option Ended) (canvas : ℕ × ℕ) (answer : Answer)
+pub acted_turns : (w : Result (Unit {0}) WriteFault) (ended : Option Ended) (canvas : ℕ × ℕ) (answer : Answer)
     (e e' : EngineModel) (number : ℕ) (action : Action) (old new : List ℕ) →
     ended ≡ ended_by w → canvas ≡ (present e).studio.canvas → number ≡ next_line e.journal →
-    Tried answer number action e e' → Puts w (reply_lines canvas answer.reply) old new →
+    Tried answer number action e e' → Writes w (shown_lines canvas answer.reply) old new →
     Turned ended old new (turn e.start e.journal (Ok action)) e'.journal
 acted_turns w ended canvas answer e e' number action old new is same is_next tried h =
     let P : Option Ended → Type 0 =
@@ -338,10 +343,10 @@ acted_turns w ended canvas answer e e' number action old new is same is_next tri
     subst P (sym is) (act_turns w canvas answer e e' number action old new same is_next tried h)
 
 -- an action that is built was done, and is the last entry
-act_follows : (w : Wrote) (answer : Answer) (e e' : EngineModel) (number : ℕ)
+act_follows : (w : Result (Unit {0}) WriteFault) (answer : Answer) (e e' : EngineModel) (number : ℕ)
     (action : Action) → Tried answer number action e e' →
     Follows (ended_by w) e e' (line_bytes action)
-act_follows wrote.All answer e e' number action tried =
+act_follows (Ok written) answer e e' number action tried =
     let entry : Entry = record { from = record { pass = 0; number = number - 1 }; action = action } in
     let longer : e'.journal ≡ e.journal ++ entry ∷ [] =
     ap (λ (x : EngineModel). x.journal) tried.state in (
@@ -351,10 +356,10 @@ act_follows wrote.All answer e e' number action tried =
       ap text_bytes longer ∙ sum_by-append (λ (x : Entry). line_bytes x.action) e.journal (entry ∷ [])
           ∙ ap (λ n. text_bytes e.journal + n) (zero-add (line_bytes action)),
     )
-act_follows wrote.WriteFault answer e e' number action tried = tt
-act_follows wrote.NoMemory answer e e' number action tried = tt
+act_follows (Err faults.Failed) answer e e' number action tried = tt
+act_follows (Err faults.NoMemory) answer e e' number action tried = tt
 
-pub acted_follows : (w : Wrote) (ended : Option Ended) (answer : Answer) (e e' : EngineModel)
+pub acted_follows : (w : Result (Unit {0}) WriteFault) (ended : Option Ended) (answer : Answer) (e e' : EngineModel)
     (number : ℕ) (action : Action) → ended ≡ ended_by w → Tried answer number action e e' →
     Follows ended e e' (line_bytes action)
 acted_follows w ended answer e e' number action is tried =

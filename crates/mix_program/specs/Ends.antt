@@ -1,10 +1,12 @@
 -- How a run goes on and ends, over what its sink held before and holds now.
-use Rattle.std.specs.Prelude.{◌≡◌, ◌⊎◌, ℕ, ◌+◌, List, ◌++◌, length, Option, Some, None}
+use Rattle.std.specs.Prelude.{◌≡◌, ◌⊎◌, ℕ, ◌+◌, List, ◌++◌, length, Option, Some, None, Result, Ok, Err}
 use Rattle.std.specs.Prelude.{◌==◌, if◌then◌else◌}
-use Rattle.mix_outside.specs.Bytes.{IsPrefix, AppendsPrefix}
+use Rattle.mix_outside.specs.Bytes.{IsPrefix}
 use Rattle.mix_outside.specs.declared.lines.Met.{Met}
 use Rattle.mix_outside.specs.declared.lines.Met.TheVariants as mets
 use Rattle.mix_model.specs.declared.action.Entry.{Entry}
+use Rattle.mix_script.specs.declared.write_fault.WriteFault as fault
+use Rattle.mix_script.specs.declared.write_fault.WriteFault.TheVariants as faults
 use Rattle.mix_engine.specs.Engines.{EngineModel, text_bytes}
 use Rattle.mix_program.specs.Output.{Written, before}
 use Rattle.mix_program.specs.Run.{done, not_built, full}
@@ -13,8 +15,6 @@ use Rattle.mix_program.specs.declared.running.Finished.TheVariants.{Done, Full, 
 use Rattle.mix_program.specs.declared.running.Ended.{Ended}
 use Rattle.mix_program.specs.declared.running.Ended.TheVariants.{Whole, ReadFault, WriteFault}
 use Rattle.mix_program.specs.declared.running.Ended.TheVariants.{NoMemory}
-use Rattle.mix_program.specs.declared.running.Wrote.{Wrote}
-use Rattle.mix_program.specs.declared.running.Wrote.TheVariants as wrote
 
 -- of the lines that are to be written some are, and the rest is left
 pub record Goes (old new : List ℕ) (all rest : Written) : Type 0 where
@@ -64,12 +64,6 @@ EndsAt mets.Past line number ended old new = Ends ended old new full
 EndsAt mets.Failed line number ended old new = (all : Written) → Ends ended old new all
 EndsAt mets.NoMemory line number ended old new = (all : Written) → Ends ended old new all
 
--- a piece is written whole; or some front of it, and why no more of it is
-abbrev pub Puts : Wrote → List ℕ → List ℕ → List ℕ → Type 0
-Puts wrote.All piece old new = new ≡ old ++ piece
-Puts wrote.WriteFault piece old new = AppendsPrefix piece old new
-Puts wrote.NoMemory piece old new = AppendsPrefix piece old new
-
 -- where the run goes on, the engine has one entry more, which takes this many bytes
 abbrev pub Follows : Option Ended → EngineModel → EngineModel → ℕ → Type 0
 Follows None old new bytes = (new.start ≡ old.start) × (new.limits ≡ old.limits)
@@ -77,11 +71,11 @@ Follows None old new bytes = (new.start ≡ old.start) × (new.limits ≡ old.li
     × (text_bytes new.journal ≡ text_bytes old.journal + bytes)
 Follows (Some ended) old new bytes = Unit {0}
 
--- how a run goes on behind a piece: a fault and want of memory end it
-abbrev pub ended_by : Wrote → Option Ended
-ended_by wrote.All = None
-ended_by wrote.WriteFault = Some WriteFault
-ended_by wrote.NoMemory = Some NoMemory
+-- how a run goes on behind the lines of an answer: a fault and want of memory end it
+abbrev pub ended_by : Result (Unit {0}) fault.WriteFault → Option Ended
+ended_by (Ok written) = None
+ended_by (Err faults.Failed) = Some WriteFault
+ended_by (Err faults.NoMemory) = Some NoMemory
 
 -- how a run finished that wrote all its lines
 abbrev pub Finishing : Finished → Ended → Type 0

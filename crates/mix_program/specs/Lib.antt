@@ -1,7 +1,7 @@
 pub mod Ends
+pub mod Laws
 pub mod Opened
 pub mod Output
-pub mod PictureText
 pub mod Run
 pub mod Starting
 pub mod Words

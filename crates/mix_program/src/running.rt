@@ -1,7 +1,6 @@
 //! Running a script line by line.
+mod answering;
 mod last_line;
-mod lines;
-mod pictures;
 mod script;
 
 pub use last_line::refuse_collection;
@@ -26,17 +25,6 @@ pub enum Ended {
     /// A source failed.
     ReadFault,
     /// A sink failed.
-    WriteFault,
-    /// There was no memory.
-    NoMemory,
-}
-
-/// Whether a piece was written.
-#[derive(Clone, Copy)]
-pub enum Wrote {
-    /// All of it was.
-    All,
-    /// The sink failed.
     WriteFault,
     /// There was no memory.
     NoMemory,

@@ -10,6 +10,8 @@ pub mod SpanLemmas
 pub mod Sources
 -- a row of pixels, one by one
 pub mod Rows
+-- pixels that are repeated in a row
+pub mod SpanPixels
 -- a part of some bytes that was written, and pixels in it and beside it
 pub mod Parts
 -- a row of a band under a draw, and the band

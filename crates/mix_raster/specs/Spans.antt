@@ -1,5 +1,5 @@
 -- Between which columns, or rows, of a canvas the steps of a draw lead into its source.
-use Rattle.std.specs.Prelude.{ℕ, ◌+◌, ◌-◌, ◌*◌, ◌<◌, ◌≤◌, ◌⊎◌, ◌≡◌, min, nat_lt, Bool}
+use Rattle.std.specs.Prelude.{ℕ, ◌+◌, ◌-◌, ◌*◌, ◌/◌, ◌<◌, ◌≤◌, ◌⊎◌, ◌≡◌, min, nat_lt, Bool}
 use Rattle.std.specs.Prelude.{Option, Some, None, IsSome, option_and_then, if◌then◌else◌}
 use Rattle.std.specs.Prelude.{List, [], ◌∷◌, length, get_or, ℤ, pos, negsuc, ◌+ℤ◌, ◌-ℤ◌}
 use Rattle.mix_model.specs.declared.draw.Step.{Step}
@@ -33,6 +33,11 @@ abbrev pub span_led : Bool → List Step → ℕ → ℕ × ℕ
 span_led down [] side = (0, side)
 span_led down (step ∷ steps) side = span_through (axis_through down step)
     (span_led (exchanged_by (is_aside step.place.quarter) down) steps side)
+
+-- places that count on by one from the first, each so many times; by 0 times nothing is said of them
+pub record AreRepeated (times : ℕ) (places : List ℕ) : Type 0 where
+  pub repeated : 0 < times → (i : ℕ) → i < length places →
+      get_or places i 0 ≡ get_or places 0 0 + i / times
 
 -- nothing past the side
 abbrev pub cut : ℕ → Option ℕ → Option ℕ

@@ -12,7 +12,7 @@ use Rattle.mix_raster.specs.declared.fill.Shown.{Shown}
 use Rattle.mix_raster.specs.declared.lead.Lead.{Lead}
 use Rattle.mix_raster.specs.declared.way.Way.{Way}
 use Rattle.mix_raster.specs.Axes.{axis_reached, exchanged}
-use Rattle.mix_raster.specs.Spans.{cut, Leads}
+use Rattle.mix_raster.specs.Spans.{cut, AreRepeated, Leads}
 
 -- the side of a source that columns lead along, and the one that rows lead along
 abbrev pub across_side : Bool → ℕ × ℕ → ℕ
@@ -54,6 +54,7 @@ pub record IsLed (way : Way) (draw : Draw) (band : Band) : Type 0 where
   pub columns : Leads (column_led draw) 0 band.width way.across.first (places_of way.across)
   pub rows : Leads (row_led draw) band.top band.rows way.down.first (places_of way.down)
   pub swap : way.swap ≡ exchanged draw.steps
+  pub repeated : AreRepeated way.times (places_of way.across)
   pub across : way.across.count ≤ length way.across.table.items
   pub down : way.down.count ≤ length way.down.table.items
 

@@ -4,9 +4,11 @@ ghost use Rattle.mix_model.specs.Colours.{bytes_of, colour_at};
 ghost use Rattle.mix_model.specs.Plans.{is_draw};
 ghost use Rattle.mix_model.specs.Sizes.{size_of};
 ghost use Rattle.mix_model.specs.Values.{are_valid};
+ghost use Rattle.mix_raster.specs.Spans.{AreRepeated};
 ghost use Rattle.mix_raster.specs.Ways.{across_side, down_side, pixel_led, place_led, AreWithin, IsShown, Shows};
 
 use crate::pixels::{four_at, put};
+use crate::repeats::fill_repeated;
 use crate::span::hide_all;
 use mix_model::{Draw, Settings};
 use mix_sources::pixel;
@@ -111,8 +113,17 @@ fn line_of(width: u32, swap: bool, line: u32) -> (usize, usize)
 }
 
 /// Fills a row with a line of a raster.
-fn fill_raster(row: &mut [u8], pixels: &[u8], width: u32, swap: bool, columns: &[u32], line: u32)
+fn fill_raster(
+    row: &mut [u8],
+    pixels: &[u8],
+    width: u32,
+    swap: bool,
+    columns: &[u32],
+    times: usize,
+    line: u32,
+)
     requires small { (line < 4096) × (width ≤ 4096) }
+    requires repeated { AreRepeated times columns.now }
     requires room { 4 * length columns.now ≤ length row.old }
     requires inside { (i : ℕ) → i < length columns.now →
         4 * place_led width swap (get_or columns.now i 0) line + 4 ≤ length pixels.now }
@@ -120,6 +131,9 @@ fn fill_raster(row: &mut [u8], pixels: &[u8], width: u32, swap: bool, columns: &
         ≡ colour_at pixels.now (4 * place_led width swap (get_or columns.now i 0) line) }
 {
     let (start, stride) = line_of(width, swap, line);
+    if stride == 1 && fill_repeated(row, pixels, columns, start, times) {
+        return;
+    }
     fill_from(row, pixels, columns, start, stride);
 }
 
@@ -137,10 +151,19 @@ fn is_plain(settings: &Settings, swap: bool) -> bool
 }
 
 /// Fills a row with a line of a draw's source.
-fn fill_row(row: &mut [u8], draw: &Draw, tick: u64, swap: bool, columns: &[u32], line: u32)
+fn fill_row(
+    row: &mut [u8],
+    draw: &Draw,
+    tick: u64,
+    swap: bool,
+    columns: &[u32],
+    times: usize,
+    line: u32,
+)
     requires draw { IsTrue (is_draw draw.now) }
     requires time { draw.now.since ≤ tick }
     requires within { AreWithin draw.now.settings swap columns.now line }
+    requires repeated { AreRepeated times columns.now }
     requires room { 4 * length columns.now ≤ length row.old }
     ensures shown { Shows draw.now tick swap columns.now line row.new }
 {
@@ -149,7 +172,7 @@ fn fill_row(row: &mut [u8], draw: &Draw, tick: u64, swap: bool, columns: &[u32],
     }
     match &draw.settings {
         Settings::Raster { pixels, width, .. } => {
-            fill_raster(row, pixels.bytes(), *width, swap, columns, line)
+            fill_raster(row, pixels.bytes(), *width, swap, columns, times, line)
         }
         _ => fill_each(row, draw, tick, swap, columns, line),
     }
@@ -178,12 +201,14 @@ pub(crate) fn show(
     tick: u64,
     swap: bool,
     columns: &[u32],
+    times: usize,
     line: u32,
     shown: Option<Shown>,
 ) -> Shown
     requires draw { IsTrue (is_draw draw.now) }
     requires time { draw.now.since ≤ tick }
     requires within { AreWithin draw.now.settings swap columns.now line }
+    requires repeated { AreRepeated times columns.now }
     requires room { 4 * length columns.now ≤ length row.old }
     requires shown { IfSome shown (IsShown draw.now tick swap columns.now row.old) }
     ensures line { result.line ≡ line }
@@ -194,7 +219,7 @@ pub(crate) fn show(
             return Shown { line, ..other };
         }
     }
-    fill_row(row, draw, tick, swap, columns, line);
+    fill_row(row, draw, tick, swap, columns, times, line);
     let hides = hide_all(row, columns.len(), draw.blend);
     Shown { line, hides }
 }

@@ -38,7 +38,16 @@ fn paint_row(
 {
     let line = way.down.places()[i];
     let y = way.down.first + i;
-    let shown = show(row, draw, tick, way.swap, way.across.places(), line, shown);
+    let shown = show(
+        row,
+        draw,
+        tick,
+        way.swap,
+        way.across.places(),
+        way.times,
+        line,
+        shown,
+    );
     let at = band.start(y) + 4 * way.across.first;
     over_span(canvas, row, at, way.across.count, draw.blend, shown.hides);
     shown

@@ -10,6 +10,7 @@ mod lead;
 mod mixing;
 mod painting;
 mod pixels;
+mod repeats;
 mod span;
 mod turns;
 mod way;

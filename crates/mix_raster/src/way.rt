@@ -7,6 +7,7 @@ ghost use Rattle.mix_raster.specs.Ways.{across_side, down_side, column_led, row_
 
 use crate::band::Band;
 use crate::lead::{Lead, span_of};
+use crate::repeats::times_of;
 use crate::turns::exchanges;
 use mix_base::NoMemory;
 use mix_model::Draw;
@@ -19,6 +20,8 @@ pub(crate) struct Way {
     pub down: Lead,
     /// Whether columns lead to rows of the source, and rows to its columns.
     pub swap: bool,
+    /// How often each place that columns lead to is repeated, or 0 where that isn't known.
+    pub times: usize,
 }
 
 /// The sides of a draw's source that the columns, and that the rows, of a canvas lead along.
@@ -64,6 +67,7 @@ impl Way {
             across,
             down,
             swap: false,
+            times: 0,
         })
     }
 
@@ -83,5 +87,6 @@ impl Way {
         self.across.find(steps, false, across, 0, band.width);
         self.down.find(steps, true, down, band.top, band.rows);
         self.swap = swap;
+        self.times = times_of(self.across.places());
     }
 }

@@ -8,6 +8,7 @@ use Rattle.mix_base.specs.Json.{Object}
 use Rattle.mix_base.specs.Uuids.{uuid_of}
 use Rattle.mix_json.specs.Fields.{refused_if}
 use Rattle.mix_model.specs.declared.body.Body.{Body}
+use Rattle.mix_model.specs.declared.item.ItemSpec.{ItemSpec}
 use Rattle.mix_model.specs.declared.notes.Notes.{Notes}
 use Rattle.mix_model.specs.declared.row.Row.{Row}
 use Rattle.mix_model.specs.declared.settings.Settings.TheVariants.{None as NoSettings}
@@ -34,16 +35,16 @@ use Rattle.mix_requests.proofs.ProperLemmas.{sought_name_named, text_whole}
 use Rattle.mix_req_inputs.specs.declared.new_input.NewInput.{NewInput}
 use Rattle.mix_req_inputs.specs.CreateInput.{InputWanted, create_input, input_added, input_answer}
 use Rattle.mix_req_inputs.specs.CreateInput.{input_creation, input_events, input_fields, input_found}
-use Rattle.mix_req_inputs.specs.CreateInput.{input_wanted, kind_sought, new_settings, new_spec}
-use Rattle.mix_req_inputs.specs.CreateInput.{next_item}
+use Rattle.mix_req_inputs.specs.CreateInput.{input_wanted, kind_sought, new_settings}
+use Rattle.mix_requests.specs.NewItems.{next_item}
 use Rattle.mix_req_inputs.proofs.SettingLemmas.{settings_named, settings_whole}
 
 -- a row with an item more where it is the parent
-item_more : (b : Bool) (n child : ℕ) (enabled : Bool) (r : Row) → r.next_item ≤ n →
-    (cond b (with_item child (new_spec enabled) r) r).next_item ≤ n + 1
+item_more : (b : Bool) (n child : ℕ) (spec : ItemSpec) (r : Row) → r.next_item ≤ n →
+    (cond b (with_item child spec r) r).next_item ≤ n + 1
 unfolding with_item
-item_more true n child enabled r most = omega arith
-item_more false n child enabled r most = omega arith
+item_more true n child spec r most = omega arith
+item_more false n child spec r most = omega arith
 
 input_more : (g : GraphState) (input : NewInput) → input.parent < g.next_serial →
     OneMore g (input_added input g)
@@ -53,13 +54,13 @@ input_more g input below =
     ne_eqb g.next_serial input.parent (λ same. omega (arith, below, same)) in
     let row : Row = new_row g.next_serial input.name input.kind input.settings new_sound in
     let more : Row → Row = (λ r. cond (is_at input.parent r)
-    (with_item g.next_serial (new_spec input.enabled) r) r) in
+    (with_item g.next_serial input.spec r) r) in
     record {
       serial = omega arith;
       items = λ n all. All-map (λ (r : Row). r.next_item ≤ n + 1) more (g.rows ++ row ∷ [])
           (All-push (λ (r : Row). (more r).next_item ≤ n + 1) g.rows row
           (λ k d within. item_more (is_at input.parent (get_or g.rows k d)) n g.next_serial
-          input.enabled (get_or g.rows k d) (all k d within))
+          input.spec (get_or g.rows k d) (all k d within))
           (rw other (omega arith)));
       hold = omega arith;
       watch = omega arith;
@@ -71,14 +72,8 @@ input_more g input below =
 -- what is asked for, and the input that is found
 wanted_named : (fields : Object) → Named (input_wanted fields)
 unfolding input_wanted
-wanted_named fields = search (
-  rules,
-  after,
-  sought_name_named,
-  new_name_named,
-  opt_named,
-  opt_bool_named,
-)
+wanted_named fields =
+    search (rules, after, sought_name_named, new_name_named, opt_named, opt_bool_named)
 
 found_below : (s : StudioState) → GraphShape s.graph → (w : InputWanted) →
     Gives (λ (input : NewInput). input.parent < s.graph.next_serial) (input_found s w)
@@ -92,10 +87,10 @@ found_below s shape w = after (scene_sought s.graph w.scene) _ (scene_below s.gr
     (λ settings d. record { gives = below }))))
 
 module _ (m : StudioModel) (notes : Notes) (ready : IsReady m notes) (caller : Caller) where
-  creation_proper : (input : NewInput) → input.parent < m.present.graph.next_serial →
+  is_proper : (input : NewInput) → input.parent < m.present.graph.next_serial →
       Gives (IsProper m.present notes caller 2) (Ok (input_creation m.present notes input))
   unfolding input_answer
-  creation_proper input below =
+  is_proper input below =
       let g : GraphState = m.present.graph in
       let more : OneMore g (input_added input g) = input_more g input below in
       let few : g.next_serial < 4294967295 = ready.serial in
@@ -115,12 +110,5 @@ module _ (m : StudioModel) (notes : Notes) (ready : IsReady m notes) (caller : C
   pub create_input_proper : (body : Body) →
       IsProperLine m.present notes caller 2 (create_input m.present notes caller body)
   unfolding create_input
-  create_input_proper body = line_proper m.present notes caller 2 _ (search (
-    rules,
-    after,
-    needed_named,
-    wanted_named,
-    found_below,
-    refused_by_named,
-    creation_proper,
-  ))
+  create_input_proper body = line_proper m.present notes caller 2 _
+      (search (rules, after, needed_named, wanted_named, found_below, refused_by_named, is_proper))

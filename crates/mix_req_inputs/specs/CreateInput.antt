@@ -1,7 +1,6 @@
 -- CreateInput: an input more, last in the registry, with an item on top of a scene.
 use Rattle.std.specs.Prelude.{◌≡◌, ℕ, pos, Bool, true, false, List, [], ◌∷◌, codes, length, unwrap_or}
 use Rattle.std.specs.Prelude.{Option, Some, Result, Ok, Err, IsTrue, ◌&&◌, option_map}
-use Rattle.std.specs.Option.{option_map_or}
 use Rattle.mix_base.specs.declared.json.Json.{Json}
 use Rattle.mix_base.specs.declared.json.Json.TheVariants as json
 use Rattle.mix_base.specs.Json.{Object}
@@ -20,10 +19,10 @@ use Rattle.mix_model.specs.declared.settings.Settings.TheVariants.{None as NoSet
 use Rattle.mix_model.specs.State.{GraphState, StudioState}
 use Rattle.mix_model.specs.Items.{asked}
 use Rattle.mix_model.specs.Texts.{kind_named}
-use Rattle.mix_model.specs.Lookups.{row_of, items_of}
+use Rattle.mix_model.specs.Lookups.{items_of}
 use Rattle.mix_model.specs.Rows.{is_input}
 use Rattle.mix_model.specs.Sets.{has}
-use Rattle.mix_model.specs.Values.{are_settings, new_place}
+use Rattle.mix_model.specs.Values.{are_settings, is_place, new_place}
 use Rattle.mix_model.specs.Holders.{has_name}
 use Rattle.mix_model.specs.Edits.{shown_input_created}
 use Rattle.mix_model.specs.Causes.{late_cause}
@@ -32,6 +31,7 @@ use Rattle.mix_sources.specs.Written.{object_of}
 use Rattle.mix_sources.specs.declared.fault.BadSetting.{BadSetting}
 use Rattle.mix_requests.specs.declared.caller.Caller.{Caller}
 use Rattle.mix_requests.specs.Effects.{Effect}
+use Rattle.mix_requests.specs.NewItems.{next_item}
 use Rattle.mix_requests.specs.Named.{name_at}
 use Rattle.mix_requests.specs.Read.{needed_fields, new_name, sought_name}
 use Rattle.mix_requests.specs.Refusals.{refused_by}
@@ -40,8 +40,7 @@ use Rattle.mix_requests.specs.Sources.{edited_alone}
 use Rattle.mix_req_inputs.specs.declared.wanted.Wanted.{Wanted}
 use Rattle.mix_req_inputs.specs.declared.new_input.NewInput.{NewInput}
 
--- what is asked for: a scene, the name and the kind of the input, settings, and whether its item is
--- enabled
+-- what is asked for. The item of the input is enabled or not
 pub record InputWanted : Type 0 where
   pub scene : List ℕ
   pub name : List ℕ
@@ -99,7 +98,7 @@ input_found s w = do
     name = w.name;
     kind = kind;
     settings = settings;
-    enabled = w.enabled;
+    spec = new_spec w.enabled;
   })
 
 -- an input that nothing of this refuses
@@ -107,15 +106,11 @@ pub record IsMakeable (g : GraphState) (input : NewInput) : Type 0 where
   pub parent : has input.parent g.scenes ≡ true
   pub free : has_name g input.name ≡ false
   pub settings : IsTrue (is_input input.kind && are_settings input.kind input.settings)
+  pub place : IsTrue (is_place input.spec.place)
 
 -- the input and its item are made
 abbrev pub input_added : NewInput → GraphState → GraphState
-input_added input = shown_input_created input.name input.kind input.settings input.parent
-    (new_spec input.enabled)
-
--- the id that the next item of a row gets
-abbrev pub next_item : GraphState → ℕ → ℕ
-next_item g x = option_map_or (λ r. r.next_item) (row_of g x) 0
+input_added input = shown_input_created input.name input.kind input.settings input.parent input.spec
 
 -- the answer to who made an input
 abbrev pub input_fields : ℕ → ℕ → List (List ℕ × Json)

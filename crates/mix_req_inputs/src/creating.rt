@@ -1,22 +1,18 @@
 //! CreateInput.
 ghost use Rattle.std.specs.Prelude.{◌≡◌, [], IfOk, IsTrue, option_map};
-ghost use Rattle.mix_model.specs.Causes.{late_cause};
 ghost use Rattle.mix_model.specs.Rows.{is_input};
 ghost use Rattle.mix_model.specs.Values.{are_settings, is_canvas};
 ghost use Rattle.mix_model.specs.WholeShape.{StudioShape};
 ghost use Rattle.mix_requests.specs.Outcomes.{Answers, DoesLast};
-ghost use Rattle.mix_requests.specs.Ready.{IsReady, MayMake};
-ghost use Rattle.mix_requests.specs.Refusals.{refused_by};
-ghost use Rattle.mix_requests.specs.Sources.{Edits, edited_alone};
-ghost use Rattle.mix_req_inputs.specs.CreateInput.{IsMakeable, create_input, input_added, input_found};
+ghost use Rattle.mix_requests.specs.Ready.{IsReady};
+ghost use Rattle.mix_req_inputs.specs.CreateInput.{IsMakeable, create_input, input_found};
 ghost use Rattle.mix_req_inputs.specs.CreateInput.{kind_sought, new_settings, wanted_in};
 
-use crate::new_input::NewInput;
-use crate::places::new_place;
+use crate::new_input::{NewInput, new_spec};
 use crate::telling::tell_input;
 use crate::wanted::{Wanted, input_wanted};
 use mix_base::{Json, JsonObj, Text};
-use mix_model::{Blend, Body, ItemSpec, Kind, Notes, Settings};
+use mix_model::{Body, Kind, Notes, Settings};
 use mix_requests::{Caller, Events, Refused, make_input, needed_fields, scene_sought};
 use mix_sources::{BadSetting, SettingFault, check_settings, kind_of};
 use mix_studio::Studio;
@@ -48,7 +44,15 @@ pub fn create_input(
         drop(input);
         return Err(Refused::NoMemory);
     };
-    match add_input(studio, input) {
+    let made = make_input(
+        studio,
+        input.name,
+        input.kind,
+        input.settings,
+        input.parent,
+        input.spec,
+    );
+    match made {
         Ok(()) => Ok(Some(answer)),
         Err(refused) => {
             drop(answer);
@@ -57,8 +61,7 @@ pub fn create_input(
     }
 }
 
-/// The input that is asked for, or the status that refuses it: 600, 602, 605, 601, and that of the
-/// settings.
+/// The input that is asked for, or what refuses it: 600, 602, 605, 601, or that of its settings.
 #[tactic(auto, unfolding(crate::specs::CreateInput::input_found))]
 fn input_found(alloc: Global, studio: &Studio, wanted: &Wanted<'_>) -> Result<NewInput, Refused>
     requires shape { StudioShape studio.now.present }
@@ -76,7 +79,7 @@ fn input_found(alloc: Global, studio: &Studio, wanted: &Wanted<'_>) -> Result<Ne
         name: wanted.name.share(),
         kind,
         settings,
-        enabled: wanted.enabled,
+        spec: new_spec(wanted.enabled),
     })
 }
 
@@ -91,8 +94,7 @@ fn kind_sought(id: &Text) -> Result<Kind, u16>
     }
 }
 
-/// The settings of a new input: what is given over the defaults of its kind, or the status that
-/// refuses them.
+/// The settings of a new input: what is given over the defaults of its kind, or what refuses them.
 fn new_settings(
     alloc: Global,
     canvas: (u32, u32),
@@ -116,29 +118,4 @@ fn new_settings(
         }
         Err(SettingFault::NoMemory) => Err(Refused::NoMemory),
     }
-}
-
-/// The input and its item are made: 603 where there would be too much.
-fn add_input(studio: &mut Studio, input: NewInput) -> Result<(), Refused>
-    requires ready { MayMake studio.old }
-    requires makeable { IsMakeable studio.old.present.graph input }
-    ensures edits { Edits result studio.old studio.new
-        (refused_by (late_cause (input_added input studio.old.present.graph)))
-        (edited_alone (input_added input) studio.old.present) }
-    ensures shape { StudioShape studio.new.present }
-{
-    let NewInput {
-        parent,
-        name,
-        kind,
-        settings,
-        enabled,
-    } = input;
-    let spec = ItemSpec {
-        enabled,
-        locked: false,
-        place: new_place(),
-        blend: Blend::Normal,
-    };
-    make_input(studio, name, kind, settings, parent, spec)
 }

@@ -5,7 +5,6 @@ mod answering;
 mod creating;
 pub mod laws;
 mod new_input;
-mod places;
 mod telling;
 mod wanted;
 

@@ -1,14 +1,15 @@
 //! What is told and answered of a new input with its item.
-ghost use Rattle.std.specs.Prelude.{◌≡◌, ◌<◌, ◌^◌, ◌++◌, IfOk, OnOk, is_some, length, true};
-ghost use Rattle.mix_model.specs.Lookups.{items_of, row_of};
-ghost use Rattle.mix_req_inputs.specs.CreateInput.{input_answer, input_events, next_item};
+ghost use Rattle.std.specs.Prelude.{◌≡◌, ◌<◌, ◌^◌, ◌++◌, IfOk, OnOk, is_some, true};
+ghost use Rattle.mix_model.specs.Lookups.{row_of};
+ghost use Rattle.mix_requests.specs.NewItems.{next_item};
+ghost use Rattle.mix_req_inputs.specs.CreateInput.{input_answer, input_events};
 
 use crate::new_input::NewInput;
 use mix_base::{ItemId, Json, NoMemory, Serial};
 use mix_graph::Graph;
 use mix_json::Fields;
 use mix_model::Event;
-use mix_requests::{Events, name_of, with_uuid};
+use mix_requests::{Events, item_count, name_of, next_item, with_uuid};
 use mix_sources::settings_json;
 use std::alloc::Global;
 
@@ -45,26 +46,6 @@ pub fn tell_input(
         source_serial: serial,
     })?;
     input_answer(alloc, serial, item)
-}
-
-/// The id that the next item of a row gets.
-fn next_item(graph: &Graph, serial: Serial) -> ItemId
-    ensures value { result ≡ next_item graph.now.present serial }
-{
-    match graph.row(serial) {
-        Some(row) => ItemId(row.next_item),
-        None => ItemId(0),
-    }
-}
-
-/// How many items a row has.
-fn item_count(graph: &Graph, serial: Serial) -> u32
-    ensures value { result ≡ length (items_of graph.now.present serial) }
-{
-    match graph.row(serial) {
-        Some(row) => row.items,
-        None => 0,
-    }
 }
 
 /// The answer to who made an input.

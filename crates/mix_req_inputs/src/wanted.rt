@@ -7,8 +7,7 @@ use mix_base::{JsonObj, Name, Text};
 use mix_json::{opt_bool, opt_obj};
 use mix_requests::{new_name, sought_name};
 
-/// What is asked for: the scene, the name and the kind of an input, settings, and whether its item is
-/// enabled.
+/// What is asked for. The item of the input is enabled or not.
 #[derive(Drop)]
 pub struct Wanted<'a> {
     pub scene: &'a Text,

@@ -9,8 +9,8 @@ use Rattle.mix_model.specs.Shape.{GraphShape, is_preview}
 use Rattle.mix_model.specs.State.{GraphState}
 use Rattle.mix_model.specs.Walks.{if_scene, preview_row, upgrade, usable_preview}
 use Rattle.mix_model.proofs.SetLemmas.{and_first, and_second}
-use Rattle.mix_shape.proofs.ChannelShape.{scene_listed}
-use Rattle.mix_shape.proofs.SceneLemmas.{scene_named}
+use Rattle.mix_shape.proofs.HoldShape.{scene_listed}
+use Rattle.mix_shape.proofs.MarkedLemmas.{scene_named}
 use Rattle.mix_requests.proofs.ProperLemmas.{short_below}
 
 -- a preview that yields a row refers to it

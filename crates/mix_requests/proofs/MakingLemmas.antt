@@ -24,7 +24,7 @@ use Rattle.mix_model.specs.Studio.{studio_settled}
 use Rattle.mix_model.proofs.MarkLemmas.{marks_suffice}
 use Rattle.mix_model.proofs.SetLemmas.{or_left}
 use Rattle.mix_shape.specs.Refused.{RefusedBy}
-use Rattle.mix_shape.proofs.SceneLemmas.{scene_named, scene_passes, scene_row}
+use Rattle.mix_shape.proofs.MarkedLemmas.{scene_named, scene_passes, scene_row}
 use Rattle.mix_studio.specs.Studios.{StudioModel, graph_in, studio_edited, with_graph}
 use Rattle.mix_studio.proofs.ShapeLemmas.{IsBeside}
 use Rattle.mix_requests.specs.declared.refused.Refused.{Refused}

@@ -36,7 +36,7 @@ use Rattle.mix_model.specs.State.{GraphState, StudioState}
 use Rattle.mix_model.specs.Studio.{studio_settled}
 use Rattle.mix_model.specs.WholeShape.{hold_of, is_noted, watch_of}
 use Rattle.mix_model.proofs.SetLemmas.{found_passes, found_test}
-use Rattle.mix_shape.proofs.SceneLemmas.{scene_row}
+use Rattle.mix_shape.proofs.MarkedLemmas.{scene_row}
 use Rattle.mix_events.specs.Statuses.{status_name}
 use Rattle.mix_studio.specs.Studios.{StudioModel}
 use Rattle.mix_requests.specs.declared.caller.Caller.{Caller}

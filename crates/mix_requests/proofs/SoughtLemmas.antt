@@ -14,10 +14,10 @@ use Rattle.mix_model.specs.Shape.{GraphShape}
 use Rattle.mix_model.specs.State.{GraphState}
 use Rattle.mix_model.specs.Views.{IsView}
 use Rattle.mix_model.proofs.SetLemmas.{and_first, found_test, or_right}
-use Rattle.mix_shape.proofs.ChannelShape.{scene_listed}
+use Rattle.mix_shape.proofs.HoldShape.{scene_listed}
 use Rattle.mix_requests.specs.Named.{name_at}
 use Rattle.mix_requests.specs.Sought.{scene_sought, of_sort}
-use Rattle.mix_shape.proofs.FoundLemmas.{found_row, found_by}
+use Rattle.mix_shape.proofs.MarkedLemmas.{found_row, found_by}
 
 -- what a look at a row shows
 module _ (view : RowView) where

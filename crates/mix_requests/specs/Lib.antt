@@ -8,5 +8,6 @@ pub mod Read
 pub mod Sought
 pub mod Refusals
 pub mod Sources
+pub mod NewItems
 pub mod Programs
 pub mod Laws

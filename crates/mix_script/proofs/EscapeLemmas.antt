@@ -1,6 +1,6 @@
 -- Escaped texts, byte by byte.
-use Rattle.std.proofs.Common.{◌≡◌, ℕ, suc, ◌+◌, ◌<◌, List, [], ◌∷◌, ◌++◌, length, get_or, drop, Bool, true, false, Option, Some, None, refl, sym, ap, ◌∙◌, append_assoc, add-one, arith}
-use Rattle.std.proofs.Math.Seq.{drop-cons}
+use Rattle.std.proofs.Common.{◌≡◌, ℕ, suc, ◌+◌, ◌<◌, List, [], ◌∷◌, ◌++◌, length, get_or, drop, take, Bool, true, false, Option, Some, None, refl, sym, ap, ◌∙◌, append_assoc, add-one, arith}
+use Rattle.std.proofs.Math.Seq.{drop-cons, drop-drop}
 use Rattle.std.proofs.lemmas.Bool.{cases_Bool, ne_eqb}
 use Rattle.std.specs.List.{list_any}
 use Rattle.std.specs.Option.{option_map}
@@ -10,7 +10,9 @@ use Rattle.std.proofs.lemmas.Bool.{and_parts, cases_lt, le-ltb, eqb-true}
 use Rattle.std.proofs.lemmas.Str.{IsUtf8-nil, IsUtf8-append, IsUtf8-from_ascii, encode_ascii}
 use Rattle.std.proofs.lemmas.Str.Ascii.{IsAscii-nil, IsAscii-cons}
 use Rattle.std.specs.Str.{IsUtf8, IsAscii}
+use Rattle.std.proofs.lemmas.List.{drop_all}
 use Rattle.std.proofs.lemmas.List.Recursion.{is_count_by}
+use Rattle.std.proofs.lemmas.List.Sums.{sum_by-cons, sum_by-take-drop}
 use lib.Utf8.{scalar, scalars, encode, encodes}
 use lib.Dec.{ltb}
 use Rattle.mix_script.specs.Escapes.{escaped, escaped_byte, unescaped, unescaped_after, put_first, meaning, is_special, is_backslash, is_line_feed}
@@ -32,32 +34,60 @@ pub left-cons : (marked : Bool) (written : List ℕ) (i : ℕ) → i < length wr
 left-cons marked written i within =
     rw add-one (ap (unescaped_after marked) (drop-cons written i 0 within))
 
--- after a backslash, a byte with a meaning
-pub next-meant : (whole : Option (List ℕ)) (front rest : List ℕ) (b meant : ℕ)
-    → meaning b ≡ Some meant → whole ≡ put_before front (unescaped_after true (b ∷ rest))
-    → whole ≡ put_before (front ++ (meant ∷ [])) (unescaped_after false rest)
-next-meant whole front rest b meant is so_far =
-    so_far ∙ ap (λ m. put_before front (put_first m (unescaped_after false rest))) is
-    ∙ put_before-more front meant (unescaped_after false rest)
-
 -- a backslash
-pub next-mark : (whole : Option (List ℕ)) (front rest : List ℕ) (b : ℕ)
-    → b ≡ 92 → whole ≡ put_before front (unescaped_after false (b ∷ rest))
-    → whole ≡ put_before front (unescaped_after true rest)
-next-mark whole front rest b is so_far = rw is at so_far
+mark-cons : (rest : List ℕ) (b : ℕ) → b ≡ 92 → unescaped_after false (b ∷ rest) ≡ unescaped_after true rest
+mark-cons rest b is = rw is refl
+
+-- a backslash and the byte behind it
+pub pair-at : (written : List ℕ) (at : ℕ) → at + 1 < length written → get_or written at 0 ≡ 92
+    → unescaped_after false (drop at written)
+    ≡ put_first (meaning (get_or written (at + 1) 0)) (unescaped_after false (drop (at + 2) written))
+pair-at written at within mark =
+    let on : at + 1 + 1 ≡ at + 2 = omega arith in
+    left-cons false written at (omega arith) ∙ mark-cons (drop (at + 1) written) _ mark
+    ∙ left-cons true written (at + 1) within
+    ∙ ap (λ n. put_first (meaning (get_or written (at + 1) 0)) (unescaped_after false (drop n written))) on
+
+pub pair-meant : (written : List ℕ) (at m : ℕ) → at + 1 < length written → get_or written at 0 ≡ 92
+    → meaning (get_or written (at + 1) 0) ≡ Some m
+    → unescaped_after false (drop at written) ≡ put_first (Some m) (unescaped_after false (drop (at + 2) written))
+pair-meant written at m within mark is =
+    pair-at written at within mark
+    ∙ ap (λ byte. put_first byte (unescaped_after false (drop (at + 2) written))) is
+
+pub pair-other : (written : List ℕ) (at : ℕ) → at + 1 < length written → get_or written at 0 ≡ 92
+    → meaning (get_or written (at + 1) 0) ≡ None → unescaped_after false (drop at written) ≡ None
+pair-other written at within mark is =
+    pair-at written at within mark
+    ∙ ap (λ byte. put_first byte (unescaped_after false (drop (at + 2) written))) is
+
+-- a backslash at the end
+pub mark-at-end : (written : List ℕ) (at : ℕ) → at + 1 ≡ length written → get_or written at 0 ≡ 92
+    → unescaped_after false (drop at written) ≡ None
+mark-at-end written at end mark =
+    left-cons false written at (omega arith) ∙ mark-cons (drop (at + 1) written) _ mark
+    ∙ ap (unescaped_after true) (drop_all (at + 1) written (omega arith))
+
+-- a line feed as it is
+feed-cons : (rest : List ℕ) (b : ℕ) → b ≡ 10 → unescaped_after false (b ∷ rest) ≡ None
+feed-cons rest b is = rw is refl
+
+pub feed-at : (written : List ℕ) (at : ℕ) → at < length written → get_or written at 0 ≡ 10
+    → unescaped_after false (drop at written) ≡ None
+feed-at written at within feed =
+    left-cons false written at within ∙ feed-cons (drop (at + 1) written) _ feed
 
 -- a byte that stands for itself
 pub plain-cons : (rest : List ℕ) (b : ℕ) → is_backslash b ≡ false → is_line_feed b ≡ false
     → unescaped_after false (b ∷ rest) ≡ put_first (Some b) (unescaped_after false rest)
 plain-cons rest b not_mark not_feed = rw (not_mark, not_feed) refl
 
-pub next-plain : (whole : Option (List ℕ)) (front rest : List ℕ) (b : ℕ)
-    → is_backslash b ≡ false → is_line_feed b ≡ false
-    → whole ≡ put_before front (unescaped_after false (b ∷ rest))
-    → whole ≡ put_before (front ++ (b ∷ [])) (unescaped_after false rest)
-next-plain whole front rest b not_mark not_feed so_far =
-    so_far ∙ ap (put_before front) (plain-cons rest b not_mark not_feed)
-    ∙ put_before-more front b (unescaped_after false rest)
+pub plain-at : (written : List ℕ) (at : ℕ) → at < length written
+    → is_backslash (get_or written at 0) ≡ false → is_line_feed (get_or written at 0) ≡ false
+    → unescaped_after false (drop at written)
+    ≡ put_first (Some (get_or written at 0)) (unescaped_after false (drop (at + 1) written))
+plain-at written at within not_mark not_feed =
+    left-cons false written at within ∙ plain-cons (drop (at + 1) written) _ not_mark not_feed
 
 -- a byte that isn't special
 plain_parts : (x y : Bool) (any : Bool) → x || y || any ≡ false → (x ≡ false) × (y ≡ false) × (any ≡ false)
@@ -125,6 +155,39 @@ length-specials (b ∷ rest) =
 pub length-escaped : (text : List ℕ) → length (escaped text) ≡ length text + count_by is_special text
 length-escaped text =
     length-specials text ∙ ap (λ n. length text + n) (is_count_by specials is_special refl (λ b rest. refl) text)
+
+-- a byte is a backslash or a line feed, and never both
+apart : (b : ℕ) → is_backslash b ≡ true → is_line_feed b ≡ false
+apart b mark = let is : b ≡ 92 = eqb-true b 92 mark in rw is refl
+
+one_of : (mark feed : Bool) → (mark ≡ true → feed ≡ false)
+    → cond (mark || feed) 1 0 ≡ cond mark 1 0 + cond feed 1 0
+one_of true true never = cc (never refl)
+one_of true false never = refl
+one_of false true never = refl
+one_of false false never = refl
+
+pub special-counts : (text : List ℕ)
+    → count_by is_special text ≡ count_by is_backslash text + count_by is_line_feed text
+special-counts [] = refl
+special-counts (b ∷ rest) =
+    let all = sum_by-cons (λ y. cond (is_special y) 1 0) b rest in
+    let marks = sum_by-cons (λ y. cond (is_backslash y) 1 0) b rest in
+    let feeds = sum_by-cons (λ y. cond (is_line_feed y) 1 0) b rest in
+    let here = one_of (is_backslash b) (is_line_feed b) (apart b) in
+    omega (arith, all, marks, feeds, here, special-counts rest)
+
+pub ruleset counts = (special-counts)
+
+-- what is counted in a block, and then in what is left
+pub counted-block : (p : ℕ → Bool) (text : List ℕ) (at n : ℕ)
+    → count_by p (drop at text) ≡ count_by p (take n (drop at text)) + count_by p (drop (at + n) text)
+counted-block p text at n =
+    sym (sum_by-take-drop (λ y. cond (p y) 1 0) (drop at text) n)
+    ∙ ap (λ rest. count_by p (take n (drop at text)) + count_by p rest) (drop-drop n at text)
+
+-- an escaped text, byte by byte
+pub ruleset bytes_in_turn = (pair-meant, pair-other, mark-at-end, feed-at, plain-at)
 
 pub ruleset lengths = (length-escaped)
 

@@ -15,3 +15,9 @@ pub mod LineLemmas
 pub mod SaidLemmas
 -- lines hold no line feed
 pub mod FeedLemmas
+-- the text of pixels one after another
+pub mod Pixels
+-- the samples of a block, track by track
+pub mod Samples
+-- lines that are written one behind the other
+pub mod Written

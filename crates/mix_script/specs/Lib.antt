@@ -1,6 +1,10 @@
+pub mod BlockText
 pub mod Escapes
 pub mod Hexadecimal
 pub mod Laws
 pub mod Lines
 pub mod Numbers
+pub mod Output
+pub mod PictureText
 pub mod Reading
+pub mod Writing

@@ -1,7 +1,9 @@
 //! A text within a line: a line feed would end the line, so it's written with a backslash.
-ghost use Rattle.std.specs.Prelude.{◌≡◌, ◌++◌, IfOk, OnOk, string_bytes};
+ghost use Rattle.std.specs.Prelude.{◌≡◌, ◌++◌, ◌<◌, ◌≤◌, Some, None, false, drop, length};
+ghost use Rattle.std.specs.Prelude.{IfOk, IfSome, MatchOption, OnOk, string_bytes};
 ghost use Rattle.std.specs.List.{list_any};
 ghost use Rattle.mix_script.specs.Escapes.{escaped, escaped_byte, unescaped, is_special, meaning};
+ghost use Rattle.mix_script.specs.Escapes.{put_first, unescaped_after};
 ghost use Rattle.mix_script.specs.Reading.{Reads};
 ghost use Rattle.mix_script.specs.Lines.{text_of, or_text, in_utf8};
 
@@ -105,30 +107,44 @@ fn meaning(byte: u8) -> Option<u8>
     }
 }
 
+/// The byte that comes next in an escaped text, and where the text goes on behind it.
+#[inline(always)]
+#[tactic(auto, using(crate::proofs::EscapeLemmas::bytes_in_turn))]
+fn byte_at(written: &[u8], at: usize) -> Option<(u8, usize)>
+    requires within { at < length written.now }
+    ensures value { MatchOption result (unescaped_after false (drop at written.now) ≡ None)
+        (λ r. unescaped_after false (drop at written.now)
+        ≡ put_first (Some r.0) (unescaped_after false (drop r.1 written.now))) }
+    ensures on { IfSome result (λ r. (at < r.1) × (r.1 ≤ length written.now)) }
+{
+    let byte = written[at];
+    if byte == b'\n' {
+        return None;
+    }
+    if byte != b'\\' {
+        return Some((byte, at + 1));
+    }
+    if at + 1 == written.len() {
+        return None;
+    }
+    match meaning(written[at + 1]) {
+        Some(meant) => Some((meant, at + 2)),
+        None => None,
+    }
+}
+
 /// The bytes that escaped ones stand for.
 fn unescape(alloc: Global, written: &[u8]) -> Result<Bytes, BadLine>
     ensures { Reads (or_text (unescaped written.now)) result }
 {
     let mut bytes = Vec::with_capacity(alloc, written.len())?;
-    let mut marked = false;
-    for byte in written {
-        if marked {
-            let Some(meant) = meaning(*byte) else {
-                return Err(BadLine::Text);
-            };
-            bytes.push(meant)?;
-            marked = false;
-        } else if *byte == b'\\' {
-            marked = true;
-        } else if *byte == b'\n' {
+    let mut at = 0;
+    'left: while at < written.len() {
+        let Some((byte, next)) = byte_at(written, at) else {
             return Err(BadLine::Text);
-        } else {
-            bytes.push(*byte)?;
-        }
+        };
+        bytes.push_reserved(byte);
+        at = next;
     }
-    if marked {
-        Err(BadLine::Text)
-    } else {
-        Ok(ListOf::from_vec(bytes))
-    }
+    Ok(ListOf::from_vec(bytes))
 }

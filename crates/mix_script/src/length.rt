@@ -1,5 +1,6 @@
 //! How long a line is.
-ghost use Rattle.std.specs.Prelude.{◌≡◌, ◌+◌, ◌-◌, ◌≤◌, ◌^◌, length, min, decimal, count_by};
+ghost use Rattle.std.specs.Prelude.{◌≡◌, ◌==◌, ◌+◌, ◌-◌, ◌≤◌, ◌^◌, length, min, decimal};
+ghost use Rattle.std.specs.Prelude.{count_by};
 ghost use Rattle.mix_script.specs.Escapes.{escaped, is_special};
 ghost use Rattle.mix_script.specs.Lines.{line_text, arrival_text, said_text};
 
@@ -7,6 +8,7 @@ use crate::digits::is_unset;
 use memchr::memchr2_iter;
 use mix_base::{Bytes32, ConnId};
 use mix_model::{Action, Message};
+use std::simd::prelude::*;
 
 /// The length of an action's line in bytes, with its line feed; 2^64 - 1 stands for all above it,
 /// too. It takes no memory.
@@ -48,8 +50,42 @@ fn escaped_length(text: &[u8]) -> u64
     text.len() as u64 + specials(text) as u64
 }
 
-/// How many bytes of a text are written as two.
+/// How many bytes of a text are written as two, 64 bytes at a time.
 fn specials(text: &[u8]) -> usize
+    ensures value { result ≡ count_by is_special text.now }
+    ensures within { result ≤ length text.now }
+{
+    let mut found = 0;
+    let mut at = 0;
+    'blocks: while text.len() - at >= 64 {
+        found += specials_of(u8x64::from_slice(&text[at..]));
+        at += 64;
+    }
+    found + specials_apart(&text[at..])
+}
+
+/// The same for one block.
+#[inline(always)]
+#[tactic(auto, using(crate::proofs::EscapeLemmas::counts))]
+fn specials_of(block: u8x64) -> usize
+    requires { length block ≡ 64 }
+    ensures value { result ≡ count_by is_special block }
+{
+    count_in(block, b'\\') as usize + count_in(block, b'\n') as usize
+}
+
+/// How many bytes of a block are this one.
+#[inline(always)]
+fn count_in(block: u8x64, byte: u8) -> u32
+    requires { length block ≡ 64 }
+    ensures value { result ≡ count_by (λ b. b == byte) block }
+    ensures within { result ≤ 64 }
+{
+    block.simd_eq(u8x64::splat(byte)).to_bitmask().count_ones()
+}
+
+/// The same for the bytes behind the last block, one by one.
+fn specials_apart(text: &[u8]) -> usize
     ensures value { result ≡ count_by is_special text.now }
     ensures within { result ≤ length text.now }
 {

@@ -1,41 +1,92 @@
--- A new item keeps what holds of the sources, unless it is refused.
-use Rattle.std.proofs.Common.{◌≡◌, ℕ, ◌+◌, ◌==◌, Bool, true, false, cond, not, ◌&&◌, List, []}
-use Rattle.std.proofs.Common.{◌∷◌, map, filter, find, Option, Some, None, refl, ap, sym, ◌∙◌, nat_lt}
-use Rattle.std.proofs.Common.{eqb-true, eq-eqb, subst, is_none, inl, inr}
-use Rattle.std.specs.List.{list_all, list_any}
-use Rattle.std.specs.Option.{option_map_or}
-use Rattle.std.proofs.lemmas.Bool.{cond_both, not-true, not-false, not_from_false, or_from, and_right}
-use Rattle.std.proofs.lemmas.Bool.{false_from_ne_true, both_ways}
+-- A new item keeps what holds of the sources, and what a look at them shows is valid.
+use Rattle.std.proofs.Common.{◌≡◌, ℕ, zero, suc, Bool, true, ◌&&◌, List, [], ◌∷◌, Option, Some}
+use Rattle.std.proofs.Common.{None, refl, IsTrue, ◌+◌, ◌==◌, false, cond, not, map, filter, find}
+use Rattle.std.proofs.Common.{ap, sym, ◌∙◌, nat_lt, eqb-true, eq-eqb, subst, is_none, inl, inr}
+use Rattle.std.specs.List.{list_all, slice_get, list_any}
+use Rattle.std.specs.Option.{IfSome, IsSomeAnd, option_map_or}
+use Rattle.mix_model.specs.declared.item.Item.{Item}
+use Rattle.mix_model.specs.declared.row.Row.{Row}
+use Rattle.mix_model.specs.declared.row.RowView.{RowView}
+use Rattle.mix_model.specs.Rows.{is_at, all_items, has_id, has_items, shows}
+use Rattle.mix_model.specs.State.{GraphState}
+use Rattle.mix_model.specs.Lookups.{row_of, is_row, items_of, items_or_none, row_passes, find_row}
+use Rattle.mix_model.specs.Lookups.{item_at}
+use Rattle.mix_model.specs.Values.{are_settings, is_sound, is_place}
+use Rattle.mix_model.specs.Views.{IsView, IsValidView}
+use Rattle.mix_model.specs.Shape.{GraphShape, is_child, is_bare, PartsFit, ids_below, names_differ}
+use Rattle.mix_model.proofs.SetLemmas.{and_first, and_second, found_passes, and_both, or_left}
+use Rattle.mix_model.proofs.SetLemmas.{or_cases, all_imply}
+use Rattle.std.proofs.lemmas.Bool.{cond_both, not-true, not-false, not_from_false, or_from}
+use Rattle.std.proofs.lemmas.Bool.{and_right, false_from_ne_true, both_ways}
 use Rattle.std.proofs.lemmas.List.{map-append}
 use Rattle.std.proofs.lemmas.List.Folds.{list_all-append, list_all-map}
-use Rattle.mix_model.specs.declared.item.Item.{Item}
 use Rattle.mix_model.specs.declared.item.ItemSpec.{ItemSpec}
-use Rattle.mix_model.specs.declared.row.Row.{Row}
 use Rattle.mix_model.specs.Sets.{has, rises_above}
-use Rattle.mix_model.specs.Rows.{is_at, has_id, has_items, all_items, shows}
 use Rattle.mix_model.specs.Items.{with_item, new_item, spec_of}
-use Rattle.mix_model.specs.State.{GraphState}
-use Rattle.mix_model.specs.Lookups.{row_passes, is_row, row_of, find_row, item_at, items_or_none}
 use Rattle.mix_model.specs.Holders.{is_held, is_named_row, is_named, shows_some}
 use Rattle.mix_model.specs.Walks.{is_chained}
-use Rattle.mix_model.specs.Values.{are_settings, is_sound, is_place}
-use Rattle.mix_model.specs.Causes.{late_cause, item_cause, item_early, item_late}
-use Rattle.mix_model.specs.Causes.{copy_cause, copy_early, copy_late, child_of}
+use Rattle.mix_model.specs.Causes.{late_cause, item_cause, item_early, item_late, copy_cause}
+use Rattle.mix_model.specs.Causes.{copy_early, copy_late, child_of}
 use Rattle.mix_model.specs.Edits.{item_added, item_duplicated, copied_to}
-use Rattle.mix_model.specs.Shape.{GraphShape, PartsFit, ids_below, is_child, is_bare, names_differ}
 use Rattle.mix_model.specs.EditedShape.{EditedShape}
-use Rattle.mix_model.proofs.SetLemmas.{and_both, and_first, and_second, found_passes, or_left}
-use Rattle.mix_model.proofs.SetLemmas.{or_cases, all_imply}
 use Rattle.mix_model.proofs.DyingLemmas.{all_members, member_passes}
 use Rattle.mix_model.proofs.AddLemmas.{added_held}
 use Rattle.mix_model.proofs.SteadyLemmas.{Steady, steady_at, at_same, rows_changed, steady_serials}
 use Rattle.mix_model.proofs.SteadyLemmas.{steady_item, steady_registry, steady_beside, steady_rows}
 use Rattle.mix_model.proofs.KeptShape.{filter_changed, differ_changed}
 use Rattle.mix_model.proofs.FallLemmas.{all_rows}
-use Rattle.mix_shape.proofs.TestLemmas.{found_any}
-use Rattle.mix_shape.proofs.NameLemmas.{HeldLess, named_less, differ_fewer, item_holds}
-use Rattle.mix_shape.proofs.NamedLemmas.{no_cause, no_early, tight, ids_more, named_is_held}
-use Rattle.mix_shape.proofs.NamedLemmas.{named_is_row, named_is_child}
+use Rattle.mix_shape.proofs.SumLemmas.{found_any}
+use Rattle.mix_shape.proofs.ThinnerLemmas.{HeldLess, named_less, differ_fewer, item_holds}
+use Rattle.mix_shape.proofs.GrownShape.{no_cause, no_early, tight, ids_more, named_is_held}
+use Rattle.mix_shape.proofs.GrownShape.{named_is_row, named_is_child}
+
+-- an element at an index passes what all pass
+get_passes : (q : Item → Bool) (items : List Item) (k : ℕ) → list_all q items ≡ true →
+    IfSome (slice_get items k) (λ i. IsTrue (q i))
+get_passes q [] k all = tt
+get_passes q (i ∷ items) zero all = and_first _ _ all
+get_passes q (i ∷ items) (suc k) all = get_passes q items k (and_second _ _ all)
+
+found_items : (g : GraphState) (q : Item → Bool) → all_items (λ r i. q i) g.rows ≡ true →
+    (parent : ℕ) (o : Option Row) → row_of g parent ≡ o → (k : ℕ) →
+    IfSome (slice_get (items_or_none o) k) (λ i. IsTrue (q i))
+found_items g q all parent None found k = tt
+found_items g q all parent (Some r) found k = get_passes q r.items k
+    (found_passes (is_at parent) (λ (s : Row). list_all q s.items) g.rows r found all).1
+
+pub item_place : (g : GraphState) → GraphShape g → (parent k : ℕ) →
+    IfSome (slice_get (items_of g parent) k) (λ i. IsTrue (is_place i.place))
+item_place g shape parent k =
+    found_items g (λ i. is_place i.place) shape.parts.rows.places_fit parent (row_of g parent) refl k
+
+pub item_child : (g : GraphState) → GraphShape g → (parent k : ℕ) →
+    IfSome (slice_get (items_of g parent) k) (λ i. IsTrue (is_row g i.child))
+item_child g shape parent k =
+    child_case (slice_get (items_of g parent) k)
+    (found_items g (λ i. is_row g i.child && is_child g i.child) shape.parts.rows.children_rows parent
+    (row_of g parent) refl k)
+  where
+    child_case : (o : Option Item) →
+        IfSome o (λ i. IsTrue (is_row g i.child && is_child g i.child)) →
+        IfSome o (λ i. IsTrue (is_row g i.child))
+    child_case None h = tt
+    child_case (Some i) h = and_first _ _ h
+
+-- a row that a look-up finds
+pub valid_view : (g : GraphState) → GraphShape g → (x : ℕ) (o : Option Row) → row_of g x ≡ o →
+    (view : RowView) → IsSomeAnd o (λ row. IsView row view) → IsValidView view
+valid_view g shape x None found view h = absurd h
+valid_view g shape x (Some r) found view v =
+    let fits : (are_settings r.kind r.settings && is_sound r.sound) ≡ true =
+    (found_passes (is_at x) (λ (s : Row). are_settings s.kind s.settings && is_sound s.sound)
+    g.rows r found shape.parts.rows.settings_fit).1 in
+    let bare : is_bare r ≡ true =
+    (found_passes (is_at x) is_bare g.rows r found shape.parts.rows.inputs_bare).1 in
+    record {
+      settings = rw (v.kind, v.settings) (and_first _ _ fits);
+      sound = rw v.sound (and_second _ _ fits);
+      bare = rw (v.kind, v.items) bare;
+    }
 
 module _ (parent child : ℕ) (spec : ItemSpec) where
   unfoldable pub at_parent : Row → Row

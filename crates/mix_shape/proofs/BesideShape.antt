@@ -10,8 +10,8 @@ use Rattle.mix_model.specs.Shape.{GraphShape, PartsFit, LimitsKept, HoldsFit, Wa
 use Rattle.mix_model.specs.Shape.{ChannelsFit, is_preview}
 use Rattle.mix_model.specs.EditedShape.{EditedShape}
 use Rattle.mix_model.proofs.SetLemmas.{or_cases}
-use Rattle.mix_shape.proofs.NameLemmas.{HeldLess, named_less, unheld_less, differ_fewer}
-use Rattle.mix_shape.proofs.NameLemmas.{held_in_registry, item_holds}
+use Rattle.mix_shape.proofs.ThinnerLemmas.{HeldLess, named_less, unheld_less, differ_fewer}
+use Rattle.mix_shape.proofs.ThinnerLemmas.{held_in_registry, item_holds}
 
 module _ (g : GraphState) (channels : List Channel) (preview : Option ℕ) (holds : List Hold)
     (watches : List Watch) (frames : List Frame) (clock next_hold next_watch : ℕ) where

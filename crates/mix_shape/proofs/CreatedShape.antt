@@ -1,6 +1,6 @@
 -- New sources keep what holds of the sources, unless they are refused.
-use Rattle.std.proofs.Common.{◌≡◌, ℕ, true, false, not, ◌&&◌, List, [], ◌∷◌, ◌++◌}
-use Rattle.std.proofs.Common.{filter, Some, None, refl, ap, sym, ◌∙◌, nat_lt, is_some, IsTrue}
+use Rattle.std.proofs.Common.{◌≡◌, ℕ, true, false, not, ◌&&◌, List, [], ◌∷◌, ◌++◌, filter, Some}
+use Rattle.std.proofs.Common.{None, refl, ap, sym, ◌∙◌, nat_lt, is_some, IsTrue}
 use Rattle.std.specs.List.{list_any}
 use Rattle.std.specs.Option.{option_map_or, IfSome}
 use Rattle.std.proofs.lemmas.Bool.{not-false, and_right}
@@ -28,43 +28,27 @@ use Rattle.mix_model.proofs.DistinctLemmas.{distinct_append}
 use Rattle.mix_model.proofs.AddLemmas.{added_held}
 use Rattle.mix_model.proofs.SteadyLemmas.{Steady}
 use Rattle.mix_shape.specs.Created.{Wanted, input_made, input_cause}
-use Rattle.mix_shape.proofs.FreshLemmas.{below_absent}
-use Rattle.mix_shape.proofs.NamedLemmas.{no_cause, no_early, tight}
-use Rattle.mix_shape.proofs.ChannelShape.{or_only}
+use Rattle.mix_shape.proofs.ThinnerLemmas.{below_absent}
+use Rattle.mix_shape.proofs.GrownShape.{no_cause, no_early, tight, NewRow, GrownFits, grown, new}
+use Rattle.mix_shape.proofs.GrownShape.{unlisted, grown_parts, held_old, pass_more, new_found}
+use Rattle.mix_shape.proofs.GrownShape.{row_below, distinct_between, below_other, old_pass}
+use Rattle.mix_shape.proofs.GrownShape.{new_passes}
+use Rattle.mix_shape.proofs.HoldShape.{or_only}
 use Rattle.mix_shape.proofs.AddedShape.{at_parent, steady_parent, added_parts, added_names}
-use Rattle.mix_shape.proofs.GrownShape.{NewRow, GrownFits, grown, new, grown_parts, held_old, pass_more}
-use Rattle.mix_shape.proofs.GrownShape.{new_found, row_below, distinct_between, below_other}
-use Rattle.mix_shape.proofs.GrownShape.{old_pass, new_passes}
-use Rattle.mix_shape.proofs.ListedLemmas.{names_grown, next_unlisted, scene_more, scene_less}
-use Rattle.mix_shape.proofs.ListedLemmas.{input_more, input_less, input_there, has_more}
+use Rattle.mix_shape.proofs.SetShape.{names_grown, next_unlisted, scene_more, scene_less}
+use Rattle.mix_shape.proofs.SetShape.{input_more, input_less, input_there, has_more}
 
 abbrev new_scene : List ℕ → GraphState → NewRow
-new_scene name g = record {
-  name = name;
-  kind = Scene;
-  settings = NoSettings;
-  scenes = g.scenes ++ g.next_serial ∷ [];
-  inputs = g.inputs;
-}
+new_scene name g =
+    record (unlisted name Scene NoSettings g) { scenes = g.scenes ++ g.next_serial ∷ [] }
 
 abbrev new_input : List ℕ → Kind → Settings → GraphState → NewRow
-new_input name kind settings g = record {
-  name = name;
-  kind = kind;
-  settings = settings;
-  scenes = g.scenes;
-  inputs = g.inputs ++ g.next_serial ∷ [];
-}
+new_input name kind settings g =
+    record (unlisted name kind settings g) { inputs = g.inputs ++ g.next_serial ∷ [] }
 
 -- a group isn't registered
 abbrev new_group : List ℕ → GraphState → NewRow
-new_group name g = record {
-  name = name;
-  kind = Group;
-  settings = NoSettings;
-  scenes = g.scenes;
-  inputs = g.inputs;
-}
+new_group name g = unlisted name Group NoSettings g
 
 scene_fits : (name : List ℕ) (g : GraphState) (parts : PartsFit g) →
     GrownFits (new_scene name g) g parts
@@ -222,18 +206,6 @@ scene_created_shape name g shape none =
     let causes = no_scene_cause g name (scene_created name g) none in
     grown_shape (new_scene name g) g shape (scene_fits name g shape.parts) causes.0 causes.1
 
--- an input that no item shows
-pub input_created_shape : (name : List ℕ) (kind : Kind) (settings : Settings) (g : GraphState) →
-    GraphShape g → (is_input kind && are_settings kind settings) ≡ true →
-    scene_cause g name (input_created name kind settings g) ≡ None →
-    EditedShape (input_created name kind settings g)
-unfolding input_created
-input_created_shape name kind settings g shape valid none =
-    let causes = no_scene_cause g name (input_created name kind settings g) none in
-    grown_shape (new_input name kind settings g) g shape
-    (input_fits name kind settings g shape.parts (and_first _ _ valid) (and_second _ _ valid))
-    causes.0 causes.1
-
 -- a group
 pub group_created_shape : (name : List ℕ) (parent : ℕ) (spec : ItemSpec) (g : GraphState) →
     GraphShape g → is_place spec.place ≡ true →
@@ -249,33 +221,26 @@ group_created_shape name parent spec g shape place none =
     (new_found (new_group name g) g shape.parts)))
     place causes.late
 
--- an input that an item shows
-pub shown_input_shape : (name : List ℕ) (kind : Kind) (settings : Settings) (parent : ℕ)
-    (spec : ItemSpec) (g : GraphState) → GraphShape g →
-    (is_input kind && are_settings kind settings) ≡ true → is_place spec.place ≡ true →
-    shown_cause g name parent (shown_input_created name kind settings parent spec g) ≡ None →
-    EditedShape (shown_input_created name kind settings parent spec g)
-unfolding shown_input_created input_created
-shown_input_shape name kind settings parent spec g shape valid place none =
-    let causes = no_shown_cause g name parent
-    (shown_input_created name kind settings parent spec g) none in
-    shown_shape (new_input name kind settings g) g shape
-    (input_fits name kind settings g shape.parts (and_first _ _ valid) (and_second _ _ valid)) causes.free
-    parent spec causes.holds
-    (or_left (has g.next_serial (g.scenes ++ (g.inputs ++ g.next_serial ∷ []))) _
-    (input_there g.next_serial g.scenes g.inputs))
-    place causes.late
-
 -- an input, shown or not
 pub input_made_shape : (name : List ℕ) (kind : Kind) (settings : Settings) (wanted : Wanted)
     (g : GraphState) → GraphShape g → (is_input kind && are_settings kind settings) ≡ true →
     option_map_or (λ w. is_place w.1.place) wanted true ≡ true →
     input_cause g name wanted (input_made name kind settings wanted g) ≡ None →
     EditedShape (input_made name kind settings wanted g)
+unfolding input_created shown_input_created
 input_made_shape name kind settings None g shape valid place none =
-    input_created_shape name kind settings g shape valid none
+    let causes = no_scene_cause g name (input_created name kind settings g) none in
+    grown_shape (new_input name kind settings g) g shape
+    (input_fits name kind settings g shape.parts (and_first _ _ valid) (and_second _ _ valid))
+    causes.0 causes.1
 input_made_shape name kind settings (Some w) g shape valid place none =
-    shown_input_shape name kind settings w.0 w.1 g shape valid place none
+    let causes = no_shown_cause g name w.0
+    (shown_input_created name kind settings w.0 w.1 g) none in
+    shown_shape (new_input name kind settings g) g shape
+    (input_fits name kind settings g shape.parts (and_first _ _ valid) (and_second _ _ valid))
+    causes.free w.0 w.1 causes.holds
+    (or_left (has g.next_serial (g.scenes ++ (g.inputs ++ g.next_serial ∷ []))) _
+    (input_there g.next_serial g.scenes g.inputs)) place causes.late
 
 pub made_clock : (name : List ℕ) (kind : Kind) (settings : Settings) (wanted : Wanted)
     (g : GraphState) → (input_made name kind settings wanted g).clock ≡ g.clock

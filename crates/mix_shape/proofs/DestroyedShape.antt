@@ -1,42 +1,97 @@
--- To destroy the first row that dies keeps what holds of the sources.
-use Rattle.std.proofs.Common.{◌≡◌, ℕ, ◌==◌, Bool, true, false, cond, not, ◌&&◌, ◌||◌, List}
-use Rattle.std.proofs.Common.{[], ◌∷◌, map, filter, drop, length, Option, Some, None, refl, ap}
-use Rattle.std.proofs.Common.{sym, ◌∙◌, arith, eqb-true, eq-eqb, is_some, nat_le, le-leb}
-use Rattle.std.proofs.Common.{leb-true, ltb-true, option_and_then}
+-- The row that is destroyed next: to destroy it keeps what holds of the sources.
+use Rattle.std.proofs.Common.{◌≡◌, ℕ, ◌≤◌, Bool, true, not, List, [], ◌∷◌, length, filter, refl}
+use Rattle.std.proofs.Common.{sym, ◌∙◌, arith, Some, None, ◌==◌, false, cond, ◌&&◌, ◌||◌, map, drop}
+use Rattle.std.proofs.Common.{Option, ap, eqb-true, eq-eqb, is_some, nat_le, le-leb, leb-true}
+use Rattle.std.proofs.Common.{ltb-true, option_and_then}
+use Rattle.std.specs.Prelude.{slice_get, remove, nat_lt}
 use Rattle.std.specs.List.{list_all, list_any}
+use Rattle.std.proofs.lemmas.List.Folds.{list_all-map, list_any-append}
+use Rattle.std.proofs.lemmas.List.Filters.{length-filter_both}
+use Rattle.mix_model.specs.declared.row.Row.{Row}
+use Rattle.mix_model.specs.Sets.{is_distinct, has, rises_above}
+use Rattle.mix_model.specs.Rows.{is_at, serials_of, is_scene, is_input, is_group, all_items, shows}
+use Rattle.mix_model.specs.State.{GraphState, Channel, Hold, Frame}
+use Rattle.mix_model.specs.Causes.{item_count}
+use Rattle.mix_model.specs.Edits.{without_first, next_destroyed}
+use Rattle.mix_model.proofs.DistinctLemmas.{all_filter}
+use Rattle.mix_shape.proofs.SumLemmas.{sum_part, all_unless, none_dropped, any_kept, filter_both}
+use Rattle.mix_shape.proofs.GrownShape.{times_fewer, filter_length}
 use Rattle.std.specs.Option.{option_map_or}
-use Rattle.std.proofs.lemmas.Bool.{not-true, not_from_false, or_parts, false_from_ne_true, both_ways}
-use Rattle.std.proofs.lemmas.List.Folds.{list_any-append}
+use Rattle.std.proofs.lemmas.Bool.{not-true, not_from_false, or_parts, false_from_ne_true}
+use Rattle.std.proofs.lemmas.Bool.{both_ways}
 use Rattle.mix_model.specs.declared.kind.Kind.{Kind}
 use Rattle.mix_model.specs.declared.item.Item.{Item}
-use Rattle.mix_model.specs.declared.row.Row.{Row}
-use Rattle.mix_model.specs.Sets.{has, is_distinct, rises_above}
-use Rattle.mix_model.specs.Rows.{is_at, is_scene, is_input, is_group, all_items, serials_of, shows}
-use Rattle.mix_model.specs.State.{GraphState, Channel, Hold, Frame}
 use Rattle.mix_model.specs.Lookups.{is_row, row_passes, registry, named_by, find_row}
 use Rattle.mix_model.specs.Holders.{is_held, is_named_row, names, shows_some, is_on, lists}
 use Rattle.mix_model.specs.Ranks.{ranks_fall, ranks_within, weights_within, rank_in, weight_in}
 use Rattle.mix_model.specs.Ranks.{inside_in, inside_of, shallow_in}
 use Rattle.mix_model.specs.Values.{are_settings, is_sound, is_place}
-use Rattle.mix_model.specs.Causes.{item_count}
-use Rattle.mix_model.specs.Edits.{next_destroyed, without_first}
 use Rattle.mix_model.specs.Shape.{GraphShape, PartsFit, RowsFit, BesideFits, LimitsKept, are_rows}
 use Rattle.mix_model.specs.Shape.{is_child, is_side_channel, is_preview, ids_below, is_bare}
 use Rattle.mix_model.specs.Shape.{names_differ}
 use Rattle.mix_model.specs.EditedShape.{EditedShape}
-use Rattle.mix_model.proofs.SetLemmas.{and_both, and_first, and_second, and_imply, or_imply, or_left}
-use Rattle.mix_model.proofs.SetLemmas.{all_imply}
-use Rattle.mix_model.proofs.DistinctLemmas.{all_filter}
+use Rattle.mix_model.proofs.SetLemmas.{and_both, and_first, and_second, and_imply, or_imply}
+use Rattle.mix_model.proofs.SetLemmas.{or_left, all_imply}
 use Rattle.mix_model.proofs.DestroyLemmas.{destroyed_unheld}
 use Rattle.mix_model.proofs.FallLemmas.{shallow_falls_in, rises_lower}
 use Rattle.mix_model.proofs.EditShape.{edited_of}
-use Rattle.mix_shape.proofs.TestLemmas.{all_unless, none_dropped, any_kept, filter_both}
-use Rattle.mix_shape.proofs.SumLemmas.{sum_part}
 use Rattle.mix_shape.proofs.ThinnerLemmas.{Lighter, none_lighter, same_lighter, shallow_lighter}
-use Rattle.mix_shape.proofs.ThinnerLemmas.{light_lighter}
-use Rattle.mix_shape.proofs.NameLemmas.{HeldLess, named_less, differ_fewer, unheld_less}
-use Rattle.mix_shape.proofs.NamedLemmas.{filter_length}
-use Rattle.mix_shape.proofs.DestroyLemmas.{below_left}
+use Rattle.mix_shape.proofs.ThinnerLemmas.{light_lighter, HeldLess, named_less, differ_fewer}
+use Rattle.mix_shape.proofs.ThinnerLemmas.{unheld_less}
+
+none_first : (dying : List ℕ) (g : GraphState) → slice_get dying 0 ≡ None →
+    g ≡ without_first dying g
+none_first [] g none = refl
+none_first (x ∷ rest) g none = cc
+
+-- where nothing dies, nothing is destroyed
+pub none_destroyed : (g : GraphState) → slice_get g.dying 0 ≡ None → g ≡ next_destroyed g
+unfolding next_destroyed
+none_destroyed g none = none_first g.dying g none
+
+first_first : (dying : List ℕ) (x : ℕ) (g : GraphState) → slice_get dying 0 ≡ Some x →
+    record g { rows = filter (λ r. not (is_at x r)) g.rows; dying = remove dying 0 }
+    ≡ without_first dying g
+first_first [] x g found = cc
+first_first (y ∷ rest) x g found =
+    let same : y ≡ x = cc in rw same refl
+
+-- the first that dies goes, with its row
+pub first_destroyed : (g : GraphState) (x : ℕ) → slice_get g.dying 0 ≡ Some x →
+    record g { rows = filter (λ r. not (is_at x r)) g.rows; dying = remove g.dying 0 }
+    ≡ next_destroyed g
+unfolding next_destroyed
+first_destroyed g x found = first_first g.dying x g found
+
+-- serials of a part of the rows
+pub differ_left : (p : Row → Bool) (rows : List Row) → is_distinct (serials_of rows) ≡ true →
+    is_distinct (serials_of (filter p rows)) ≡ true
+differ_left p rows = times_fewer (λ (r : Row). r.serial) p rows
+
+pub below_left : (next : ℕ) (p : Row → Bool) (rows : List Row) →
+    list_all (λ x. nat_lt x next) (serials_of rows) ≡ true →
+    list_all (λ x. nat_lt x next) (serials_of (filter p rows)) ≡ true
+below_left next p rows below =
+    list_all-map (λ x. nat_lt x next) (λ (r : Row). r.serial) (filter p rows)
+    ∙ all_filter (λ (r : Row). nat_lt r.serial next) p rows
+    (sym (list_all-map (λ x. nat_lt x next) (λ (r : Row). r.serial) rows) ∙ below)
+
+pub items_left : (p : Row → Bool) (rows : List Row) → item_count (filter p rows) ≤ item_count rows
+items_left p rows = sum_part (λ (r : Row). length r.items) p rows
+
+first_less : (dying : List ℕ) (g : GraphState) →
+    length (without_first dying g).rows ≤ length g.rows
+first_less [] g = omega arith
+first_less (x ∷ rest) g = omega (
+  arith,
+  length-filter_both (λ r. not (is_at x r))
+      (λ r. not (not (is_at x r))) (λ r. refl) g.rows,
+)
+
+-- no more rows are left
+pub destroyed_less : (g : GraphState) → length (next_destroyed g).rows ≤ length g.rows
+unfolding next_destroyed
+destroyed_less g = first_less g.dying g
 
 -- parts of a list that rises rise
 pub rises_kept : (p : Row → Bool) (m : ℕ) (rows : List Row) →

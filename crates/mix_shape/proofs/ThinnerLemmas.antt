@@ -1,28 +1,169 @@
--- Rows that lose items, or whose items change places: what held of all items holds of those that are
--- left, and no row gets deeper or heavier.
-use Rattle.std.proofs.Common.{◌≡◌, ℕ, zero, suc, ◌≤◌, ◌==◌, Bool, true, false, cond, not, ◌||◌}
-use Rattle.std.proofs.Common.{List, [], ◌∷◌, map, length, Option, Some, None, refl, sym, ◌∙◌}
-use Rattle.std.proofs.Common.{arith, nat_lt, nat_le, le-leb, leb-true, eqb-true, eq-eqb}
-use Rattle.std.proofs.Common.{option_map, option_and_then}
-use Rattle.std.specs.List.{list_all, sum_by}
-use Rattle.std.proofs.lemmas.Bool.{true_from_ne_false, both_ways}
-use Rattle.std.proofs.lemmas.List.Folds.{list_all-map}
-use Rattle.mix_model.specs.declared.item.Item.{Item}
+-- Names that are taken, numbers that were not given yet, fewer holders and fewer named rows; rows
+-- with fewer items, or with items in another order.
+use Rattle.std.proofs.Common.{◌≡◌, ℕ, ◌+◌, ◌<◌, true, false, ◌&&◌, not, List, [], ◌∷◌, ◌++◌}
+use Rattle.std.proofs.Common.{is_some, refl, ap, sym, ◌∙◌, arith, Option, Some, None, bytes_eq}
+use Rattle.std.proofs.Common.{nat_lt, ◌==◌, ◌||◌, lt-ltb, ltb-true, Bool, cond, filter, inl, inr}
+use Rattle.std.proofs.Common.{zero, suc, ◌≤◌, map, length, nat_le, le-leb, leb-true, eqb-true}
+use Rattle.std.proofs.Common.{eq-eqb, option_map, option_and_then}
+use Rattle.std.specs.List.{list_all, list_any, sum_by}
+use Rattle.std.proofs.lemmas.Bool.{false_from_ne_true, both_ways, true_from_ne_false}
+use Rattle.std.proofs.lemmas.List.Folds.{list_any-append, list_all-append, list_all-map}
 use Rattle.mix_model.specs.declared.row.Row.{Row}
-use Rattle.mix_model.specs.Sets.{is_distinct, greatest}
-use Rattle.mix_model.specs.Rows.{is_at, has_items, children_of, shows}
-use Rattle.mix_model.specs.Lookups.{find_row}
-use Rattle.mix_model.specs.Holders.{shows_some}
+use Rattle.mix_model.specs.Sets.{has, is_distinct, greatest}
+use Rattle.mix_model.specs.Rows.{serials_of, is_group, is_at, has_items, children_of, shows}
+use Rattle.mix_model.specs.State.{GraphState}
+use Rattle.mix_model.specs.Lookups.{find_row, registry}
+use Rattle.mix_model.specs.Holders.{is_named_row, named_row_or_none, find_named, has_name, is_held}
+use Rattle.mix_model.specs.Holders.{names, shows_some, is_on, lists}
+use Rattle.mix_model.proofs.SetLemmas.{and_both, and_first, found_test, all_imply, and_second}
+use Rattle.mix_model.proofs.SetLemmas.{and_imply, or_imply, not_imply, or_left, or_right, or_cases}
+use Rattle.mix_model.proofs.DyingLemmas.{member_passes}
+use Rattle.mix_model.proofs.DistinctLemmas.{row_is_listed, distinct_append}
+use Rattle.mix_model.specs.Shape.{names_differ, ids_below, is_bare}
+use Rattle.mix_shape.proofs.SumLemmas.{any_kept, none_all, all_none, all_sum, sum_all, sum_map}
+use Rattle.mix_shape.proofs.SumLemmas.{sum_less, length_sum, sum_of_is, one_if, greatest_all}
+use Rattle.mix_shape.proofs.SumLemmas.{all_greatest, distinct_times, times_distinct}
+use Rattle.mix_model.specs.declared.item.Item.{Item}
 use Rattle.mix_model.specs.Ranks.{inside_of, inside_in, rank_by, rank_over, rank_in, sum_of}
 use Rattle.mix_model.specs.Ranks.{weight_by, weight_over, weight_in}
 use Rattle.mix_model.specs.Causes.{item_count}
-use Rattle.mix_model.specs.Shape.{ids_below, is_bare}
-use Rattle.mix_model.proofs.SetLemmas.{and_both, and_first, and_second}
 use Rattle.mix_model.proofs.SteadyLemmas.{Steady, steady_at, steady_found, at_same}
-use Rattle.mix_shape.proofs.TestLemmas.{none_all, all_none}
-use Rattle.mix_shape.proofs.SumLemmas.{all_sum, sum_all, sum_map, sum_less, length_sum, sum_of_is}
-use Rattle.mix_shape.proofs.SumLemmas.{one_if, greatest_all, all_greatest, distinct_times}
-use Rattle.mix_shape.proofs.SumLemmas.{times_distinct}
+
+name_case : (g : GraphState) (name : List ℕ) (o : Option Row) → find_named g name ≡ o →
+    is_some o ≡ named_row_or_none g o
+name_case g name None found = refl
+name_case g name (Some r) found = sym (and_first _ _
+    (found_test (λ r. is_named_row g r && bytes_eq r.name name) g.rows r found))
+
+-- a name belongs to a named row where the look-up by it finds one
+pub name_found : (g : GraphState) (name : List ℕ) → is_some (find_named g name) ≡ has_name g name
+name_found g name = name_case g name (find_named g name) refl
+
+pub has_append : (x : ℕ) (xs ys : List ℕ) → has x (xs ++ ys) ≡ (has x xs || has x ys)
+has_append x xs ys = list_any-append (λ y. y == x) xs ys
+
+-- a number that all are below isn't among them
+pub below_absent : (next : ℕ) (ids : List ℕ) → list_all (λ id. nat_lt id next) ids ≡ true →
+    has next ids ≡ false
+below_absent next ids below = false_from_ne_true _ (λ here.
+    let less : next < next = ltb-true next next
+    (member_passes (λ id. nat_lt id next) next ids here below) in absurd (omega (arith, less)))
+
+-- so it differs from all, and all are below the one after it
+pub differ_more : (xs : List ℕ) (next : ℕ) → is_distinct xs ≡ true →
+    list_all (λ x. nat_lt x next) xs ≡ true → is_distinct (xs ++ next ∷ []) ≡ true
+differ_more xs next differ below = distinct_append xs (next ∷ []) differ refl
+    (and_both _ _ (ap not (below_absent next xs below)) refl)
+
+pub below_next : (n x : ℕ) → nat_lt x n ≡ true → nat_lt x (n + 1) ≡ true
+below_next n x less = lt-ltb x (n + 1) (omega (arith, ltb-true x n less))
+
+pub below_more : (xs : List ℕ) (next : ℕ) → list_all (λ x. nat_lt x next) xs ≡ true →
+    list_all (λ x. nat_lt x (next + 1)) (xs ++ next ∷ []) ≡ true
+below_more xs next below = list_all-append (λ x. nat_lt x (next + 1)) xs (next ∷ [])
+    ∙ and_both _ _
+    (all_imply (λ x. nat_lt x next) (λ x. nat_lt x (next + 1)) (below_next next) xs below)
+    (and_both _ _ (lt-ltb next (next + 1) (omega arith)) refl)
+
+-- no row is found where its serial isn't listed, as none that wasn't given is
+pub absent_row : (rows : List Row) (x : ℕ) → has x (serials_of rows) ≡ false →
+    find_row rows x ≡ None
+absent_row rows x absent = none_case (find_row rows x) (row_is_listed rows x ∙ absent)
+  where
+    none_case : (o : Option Row) → is_some o ≡ false → o ≡ None
+    none_case None none = refl
+    none_case (Some r) none = cc
+
+pub fresh_row : (rows : List Row) (next : ℕ) →
+    list_all (λ x. nat_lt x next) (serials_of rows) ≡ true → find_row rows next ≡ None
+fresh_row rows next below = absent_row rows next (below_absent next (serials_of rows) below)
+
+-- what is held after is held before
+abbrev pub HeldLess : GraphState → GraphState → Type 0
+HeldLess old new = (y : ℕ) → is_held new y ≡ true → is_held old y ≡ true
+
+-- what is registered after was registered before
+abbrev pub ListedLess : GraphState → GraphState → Type 0
+ListedLess old new = (y : ℕ) → has y (registry new) ≡ true → has y (registry old) ≡ true
+
+pub named_less : (old new : GraphState) → HeldLess old new → ListedLess old new → (r : Row) →
+    is_named_row new r ≡ true → is_named_row old r ≡ true
+unfolding is_named_row
+named_less old new held listed r =
+    or_imply _ _ _ _ (listed r.serial)
+    (and_imply _ _ _ _ (λ (group : is_group r.kind ≡ true). group) (held r.serial))
+
+-- of a part of the rows, a part by a narrower test
+pub part_within : (p q : Row → Bool) → ((r : Row) → q r ≡ true → p r ≡ true) → (rows : List Row) →
+    filter q (filter p rows) ≡ filter q rows
+part_within p q imply [] = refl
+part_within p q imply (r ∷ rows) = here (p r) refl (part_within p q imply rows)
+  where
+    here : (b : Bool) → p r ≡ b → filter q (filter p rows) ≡ filter q rows →
+        filter q (cond b (r ∷ filter p rows) (filter p rows))
+        ≡ cond (q r) (r ∷ filter q rows) (filter q rows)
+    here true old rest = ap (λ rs. cond (q r) (r ∷ rs) rs) rest
+    here false old rest =
+        let other : q r ≡ false = false_from_ne_true _ (λ new. both_ways _ old (imply r new)) in
+        rw other rest
+
+-- names of a part differ
+pub differ_part : (q : Row → Bool) (rows : List Row) → names_differ rows ≡ true →
+    names_differ (filter q rows) ≡ true
+differ_part q [] differ = refl
+differ_part q (r ∷ rows) differ = here (q r) (differ_part q rows (and_second _ _ differ))
+  where
+    here : (b : Bool) → names_differ (filter q rows) ≡ true →
+        names_differ (cond b (r ∷ filter q rows) (filter q rows)) ≡ true
+    here true rest = and_both _ _ (not_imply _ _ (any_kept (λ s. bytes_eq s.name r.name) q rows)
+        (and_first _ _ differ)) rest
+    here false rest = rest
+
+pub differ_fewer : (p q : Row → Bool) → ((r : Row) → q r ≡ true → p r ≡ true) →
+    (rows : List Row) → names_differ (filter p rows) ≡ true →
+    names_differ (filter q rows) ≡ true
+differ_fewer p q imply rows differ = ap names_differ (sym (part_within p q imply rows))
+    ∙ differ_part q (filter p rows) differ
+
+-- what dies is still unheld
+pub unheld_less : (old new : GraphState) → HeldLess old new → (xs : List ℕ) →
+    list_all (λ x. not (is_held old x)) xs ≡ true → list_all (λ x. not (is_held new x)) xs ≡ true
+unheld_less old new held xs = all_imply (λ x. not (is_held old x)) (λ x. not (is_held new x))
+    (λ x. not_imply (is_held old x) (is_held new x) (held x)) xs
+
+-- what holds a row, place by place: the registry, a channel, an item, a hold, a frame
+module _ (g : GraphState) (x : ℕ) where
+  pub held_in_registry : has x (registry g) ≡ true → is_held g x ≡ true
+  unfolding is_held
+  held_in_registry here = or_left _ _ here
+
+  pub channel_holds : list_any (names x) g.channels ≡ true → is_held g x ≡ true
+  unfolding is_held
+  channel_holds here = or_right (has x (registry g)) _ (or_left _ _ here)
+
+  pub item_holds : list_any (shows_some x) g.rows ≡ true → is_held g x ≡ true
+  unfolding is_held
+  item_holds here = or_right (has x (registry g)) _
+      (or_right (list_any (names x) g.channels) _ (or_left _ _ here))
+
+  pub hold_holds : list_any (is_on x) g.holds ≡ true → is_held g x ≡ true
+  unfolding is_held
+  hold_holds here = or_right (has x (registry g)) _ (or_right (list_any (names x) g.channels) _
+      (or_right (list_any (shows_some x) g.rows) _ (or_left _ _ here)))
+
+  pub frame_holds : list_any (lists x) g.frames ≡ true → is_held g x ≡ true
+  unfolding is_held
+  frame_holds here = or_right (has x (registry g)) _ (or_right (list_any (names x) g.channels) _
+      (or_right (list_any (shows_some x) g.rows) _ (or_right (list_any (is_on x) g.holds) _ here)))
+
+-- a named row is held
+pub named_held : (g : GraphState) (r : Row) → is_named_row g r ≡ true →
+    is_held g r.serial ≡ true
+unfolding is_named_row
+named_held g r named = elim (or_cases _ _ named) [
+  | inl here ↦ held_in_registry g r.serial here
+  | inr both ↦ and_second _ _ both
+]
 
 -- what such a change does to a row: no sum over its items grows, and the rest stays
 pub record Thinner (h : Row → Row) : Type 0 where

@@ -1,38 +1,46 @@
--- To take an item out, and to move one, keeps what holds of the sources.
-use Rattle.std.proofs.Common.{◌≡◌, ℕ, ◌+◌, ◌≤◌, Bool, true, cond, not, ◌&&◌, List, [], ◌∷◌}
-use Rattle.std.proofs.Common.{◌++◌, map, filter, take, drop, refl, ap, ◌∙◌, arith, nat_le}
-use Rattle.std.proofs.Common.{nat_lt, le-leb, leb-true}
+-- To take an item out, to move one, and to remove a source keeps what holds of the sources.
+use Rattle.std.proofs.Common.{◌≡◌, ℕ, ◌+◌, ◌≤◌, Bool, true, cond, not, ◌&&◌, List, [], ◌∷◌, ◌++◌}
+use Rattle.std.proofs.Common.{map, filter, take, drop, refl, ap, ◌∙◌, arith, nat_le, nat_lt, le-leb}
+use Rattle.std.proofs.Common.{leb-true, ◌==◌, false, ◌||◌, sym, is_some, eqb-true}
 use Rattle.std.specs.List.{list_all, list_any, sum_by}
-use Rattle.std.proofs.lemmas.List.{length-map}
+use Rattle.std.proofs.lemmas.List.{length-map, take-map, drop-map}
 use Rattle.std.proofs.lemmas.List.Sums.{sum_by-append, sum_by-take-drop}
 use Rattle.std.proofs.lemmas.List.Filters.{sum_by-filter_both}
 use Rattle.mix_model.specs.declared.item.Item.{Item}
 use Rattle.mix_model.specs.declared.row.Row.{Row}
-use Rattle.mix_model.specs.Sets.{rises_above}
-use Rattle.mix_model.specs.Rows.{is_at, has_id, all_items, shows}
+use Rattle.mix_model.specs.Sets.{rises_above, has, without, is_distinct}
+use Rattle.mix_model.specs.Rows.{is_at, has_id, all_items, shows, is_scene, is_input, is_group}
 use Rattle.mix_model.specs.Items.{without_item, without_child, with_item_at}
 use Rattle.mix_model.specs.State.{GraphState, Channel}
-use Rattle.mix_model.specs.Lookups.{is_row}
-use Rattle.mix_model.specs.Holders.{is_held, is_named_row, shows_some}
+use Rattle.mix_model.specs.Lookups.{is_row, row_passes, named_by, registry}
+use Rattle.mix_model.specs.Holders.{is_held, is_named_row, shows_some, names}
 use Rattle.mix_model.specs.Ranks.{ranks_fall, ranks_within, weights_within, rank_in, weight_in}
 use Rattle.mix_model.specs.Ranks.{shallow_in}
 use Rattle.mix_model.specs.Values.{are_settings, is_sound, is_place}
 use Rattle.mix_model.specs.Causes.{item_count}
-use Rattle.mix_model.specs.Edits.{item_removed, item_moved}
+use Rattle.mix_model.specs.Edits.{item_removed, item_moved, source_removed, emptied_of, no_row}
 use Rattle.mix_model.specs.Shape.{GraphShape, RowsFit, LimitsKept, RegistryFits, BesideFits}
-use Rattle.mix_model.specs.Shape.{ChannelsFit, DyingFits, is_child, is_bare, ids_below, names_differ}
+use Rattle.mix_model.specs.Shape.{ChannelsFit, DyingFits, is_child, is_bare, ids_below}
+use Rattle.mix_model.specs.Shape.{names_differ, is_side_channel, is_program_channel}
 use Rattle.mix_model.specs.EditedShape.{EditedShape}
-use Rattle.mix_model.proofs.SetLemmas.{or_imply, all_imply}
+use Rattle.mix_model.proofs.SetLemmas.{or_imply, all_imply, and_both, and_first, and_second}
+use Rattle.mix_model.proofs.SetLemmas.{and_imply}
 use Rattle.mix_model.proofs.SteadyLemmas.{rows_changed, steady_serials, steady_sees, steady_rows}
-use Rattle.mix_model.proofs.SteadyLemmas.{steady_item, steady_registry, steady_beside}
-use Rattle.mix_model.proofs.SteadyLemmas.{holds_seen, frames_seen, preview_seen}
+use Rattle.mix_model.proofs.SteadyLemmas.{steady_item, steady_registry, steady_beside, holds_seen}
+use Rattle.mix_model.proofs.SteadyLemmas.{frames_seen, preview_seen, steady_there, steady_pass}
 use Rattle.mix_model.proofs.KeptShape.{filter_changed, differ_changed}
 use Rattle.mix_model.proofs.FallLemmas.{shallow_falls_in}
-use Rattle.mix_shape.proofs.SumLemmas.{sum_part}
-use Rattle.mix_shape.proofs.NameLemmas.{HeldLess, ListedLess, named_less, differ_fewer, unheld_less}
-use Rattle.mix_shape.proofs.ThinnerLemmas.{Thinner, thinner_at, part, ids_kept, shows_less}
-use Rattle.mix_shape.proofs.ThinnerLemmas.{count_fewer, bare_kept, lighter_rows, shallow_lighter}
-use Rattle.mix_shape.proofs.ThinnerLemmas.{light_lighter}
+use Rattle.mix_shape.proofs.SumLemmas.{sum_part, all_both}
+use Rattle.mix_shape.proofs.ThinnerLemmas.{HeldLess, ListedLess, named_less, differ_fewer}
+use Rattle.mix_shape.proofs.ThinnerLemmas.{unheld_less, Thinner, thinner_at, part, ids_kept}
+use Rattle.mix_shape.proofs.ThinnerLemmas.{shows_less, count_fewer, bare_kept, lighter_rows}
+use Rattle.mix_shape.proofs.ThinnerLemmas.{shallow_lighter, light_lighter}
+use Rattle.std.proofs.lemmas.Bool.{not_from_false, false_from_ne_true, both_ways}
+use Rattle.std.proofs.lemmas.List.Elements.{filter-append}
+use Rattle.std.proofs.lemmas.List.Folds.{list_all-map}
+use Rattle.mix_model.specs.declared.kind.Kind.{Kind}
+use Rattle.mix_model.proofs.DyingLemmas.{has_filter, all_members, member_passes}
+use Rattle.mix_model.proofs.DistinctLemmas.{distinct_filter, all_filter, filter_passes}
 
 -- some row shows it after such a change: some row did before
 pub shown_less : (h : Row → Row) → Thinner h → (x : ℕ) (rows : List Row) →
@@ -164,27 +172,28 @@ module _ (h : Row → Row) (t : Thinner h) (g : GraphState) (shape : GraphShape 
       (steady_item h t.steady g g.dying) r.items) g.rows shape.parts.rows.children_rows))
       (steady_registry h t.steady g g.dying shape.parts.registry) b.channels
 
-pub thinner_without : (id : ℕ) → Thinner (without_item id)
-unfolding without_item
-thinner_without id = record {
+-- items changed alone: no sum over them may grow
+thinner_items : (change : List Item → List Item) →
+    ((f : Item → ℕ) (items : List Item) → sum_by f (change items) ≤ sum_by f items) →
+    Thinner (λ r. record r { items = change r.items })
+thinner_items change less = record {
   steady = record { serial = λ r. refl; kind = λ r. refl };
   name = λ r. refl;
   settings = λ r. refl;
   sound = λ r. refl;
   next = λ r. refl;
-  less = λ f r. sum_part f (λ i. not (has_id id i)) r.items;
+  less = λ f r. less f r.items;
 }
+
+pub thinner_without : (id : ℕ) → Thinner (without_item id)
+unfolding without_item
+thinner_without id = thinner_items (filter (λ i. not (has_id id i)))
+    (λ f. sum_part f (λ i. not (has_id id i)))
 
 pub thinner_child : (x : ℕ) → Thinner (without_child x)
 unfolding without_child
-thinner_child x = record {
-  steady = record { serial = λ r. refl; kind = λ r. refl };
-  name = λ r. refl;
-  settings = λ r. refl;
-  sound = λ r. refl;
-  next = λ r. refl;
-  less = λ f r. sum_part f (λ i. not (shows x i)) r.items;
-}
+thinner_child x = thinner_items (filter (λ i. not (shows x i)))
+    (λ f. sum_part f (λ i. not (shows x i)))
 
 -- a sum doesn't ask where an item lies
 moved_less : (f : Item → ℕ) (id index : ℕ) (items : List Item) →
@@ -204,14 +213,10 @@ moved_less f id index items =
 
 pub thinner_moved : (id index : ℕ) → Thinner (with_item_at id index)
 unfolding with_item_at
-thinner_moved id index = record {
-  steady = record { serial = λ r. refl; kind = λ r. refl };
-  name = λ r. refl;
-  settings = λ r. refl;
-  sound = λ r. refl;
-  next = λ r. refl;
-  less = λ f r. moved_less f id index r.items;
-}
+thinner_moved id index = thinner_items
+    (λ items. let others : List Item = filter (λ i. not (has_id id i)) items in
+    take index others ++ (filter (has_id id) items ++ drop index others))
+    (λ f. moved_less f id index)
 
 -- an item goes
 pub removed_shape : (x id : ℕ) (g : GraphState) → GraphShape g →
@@ -226,3 +231,153 @@ pub moved_shape : (x id index : ℕ) (g : GraphState) → GraphShape g →
 unfolding item_moved
 moved_shape x id index g shape = fewer_shape (λ r. cond (is_at x r) (with_item_at id index r) r)
     (thinner_at x (with_item_at id index) (thinner_moved id index)) g shape
+
+module _ (x : ℕ) (g : GraphState) (shape : GraphShape g) where
+  abbrev childless : Row → Row
+  childless = without_child x
+
+  thinner : Thinner childless
+  thinner = thinner_child x
+
+  gone : GraphState
+  gone = source_removed x g
+
+  -- the registry is what it was without the source
+  listed : registry gone ≡ without x (registry g)
+  unfolding gone source_removed
+  listed = sym (filter-append (λ y. not (y == x)) g.scenes g.inputs)
+
+  listed_case : (y : ℕ) → has y (registry gone) ≡ (not (y == x) && has y (registry g))
+  listed_case y = ap (has y) listed ∙ has_filter (λ z. not (z == x)) y (registry g)
+
+  listed_less : ListedLess g gone
+  listed_less y here = and_second _ _ (sym (listed_case y) ∙ here)
+
+  -- an emptied channel names no more than it did
+  names_less : (y : ℕ) (channel : Channel) → names y (emptied_of x channel) ≡ true →
+      names y channel ≡ true
+  names_less y channel named = here (has x (named_by channel)) named
+    where
+      here : (b : Bool) → names y (cond b no_row channel) ≡ true → names y channel ≡ true
+      here true h = cc
+      here false h = h
+
+  channels_less : (y : ℕ) (channels : List Channel) →
+      list_any (names y) (map (emptied_of x) channels) ≡ true →
+      list_any (names y) channels ≡ true
+  channels_less y [] named = named
+  channels_less y (c ∷ channels) named =
+      or_imply _ _ _ _ (names_less y c) (channels_less y channels) named
+
+  held_less : HeldLess g gone
+  unfolding is_held gone source_removed
+  held_less y =
+      or_imply _ _ _ _ (listed_less y) (or_imply _ _ _ _ (channels_less y g.channels)
+      (or_imply _ _ _ _ (shown_less childless thinner y g.rows) (λ d. d)))
+
+  there : (y : ℕ) → is_row gone y ≡ is_row g y
+  unfolding gone source_removed
+  there y = steady_there childless thinner.steady g.rows y
+
+  passes : (test : Kind → Bool) (y : ℕ) → row_passes g (λ r. test r.kind) y ≡ true →
+      row_passes gone (λ r. test r.kind) y ≡ true
+  unfolding gone source_removed
+  passes test y here = steady_pass childless thinner.steady test g.rows y ∙ here
+
+  -- another child is still registered, or a group
+  child_left : (y : ℕ) → not (y == x) ≡ true → is_child g y ≡ true → is_child gone y ≡ true
+  child_left y other =
+      or_imply _ _ _ _ (λ here. listed_case y ∙ and_both _ _ other here)
+      (passes is_group y)
+
+  children_left : all_items (λ r i. is_row gone i.child && is_child gone i.child) gone.rows
+      ≡ true
+  unfolding gone source_removed without_child
+  children_left = rows_changed childless
+      (λ r. list_all (λ i. is_row g i.child && is_child g i.child) r.items)
+      (λ r. list_all (λ i. is_row gone i.child && is_child gone i.child) r.items)
+      (λ r all. let left : List Item = filter (λ i. not (shows x i)) r.items in
+      all_imply (λ (i : Item). (is_row g i.child && is_child g i.child) && not (shows x i))
+      (λ (i : Item). is_row gone i.child && is_child gone i.child)
+      (λ i h. and_both _ _ (there i.child ∙ and_first _ _ (and_first _ _ h))
+      (child_left i.child (and_second _ _ h) (and_second _ _ (and_first _ _ h)))) left
+      (all_both (λ (i : Item). is_row g i.child && is_child g i.child) (λ i. not (shows x i)) left
+      (all_filter (λ (i : Item). is_row g i.child && is_child g i.child) (λ i. not (shows x i))
+      r.items all) (filter_passes (λ i. not (shows x i)) r.items)))
+      g.rows shape.parts.rows.children_rows
+
+  scene_left : (y : ℕ) → not (y == x) ≡ true → has y g.scenes ≡ true →
+      has y (without x g.scenes) ≡ true
+  scene_left y other here = has_filter (λ z. not (z == x)) y g.scenes ∙ and_both _ _ other here
+
+  not_named : (c : Channel) → has x (named_by c) ≡ false → (y : ℕ) → has y (named_by c) ≡ true →
+      not (y == x) ≡ true
+  not_named c none y here = not_from_false _ (false_from_ne_true _ (λ same. both_ways _ none
+      (ap (λ z. has z (named_by c)) (sym (eqb-true y x same)) ∙ here)))
+
+  -- a channel that doesn't name it names the same rows, and one that does is emptied
+  program_kept : (c : Channel) → is_program_channel g c ≡ true →
+      is_program_channel gone (emptied_of x c) ≡ true
+  unfolding gone source_removed
+  program_kept c ok = here (has x (named_by c)) refl
+    where
+      here : (b : Bool) → has x (named_by c) ≡ b →
+          is_program_channel gone (cond b no_row c) ≡ true
+      here true named = refl
+      here false none = and_imply
+          (list_all (λ y. has y g.scenes) (named_by c) && is_distinct (named_by c))
+          (is_some c.0 || not (is_some c.1)) _ _
+          (and_imply (list_all (λ y. has y g.scenes) (named_by c)) (is_distinct (named_by c)) _ _
+          (λ scenes. all_members (λ y. has y (without x g.scenes)) (named_by c) (λ y named.
+          scene_left y (not_named c none y named)
+          (member_passes (λ z. has z g.scenes) y (named_by c) named scenes))) (λ d. d)) (λ d. d) ok
+
+  side_kept : (c : Channel) → is_side_channel g c ≡ true →
+      is_side_channel gone (emptied_of x c) ≡ true
+  side_kept c ok = here (has x (named_by c)) refl
+    where
+      here : (b : Bool) → has x (named_by c) ≡ b → is_side_channel gone (cond b no_row c) ≡ true
+      here true named = refl
+      here false none = and_imply (list_all (is_child g) (named_by c)) (not (is_some c.1)) _ _
+          (λ children. all_members (is_child gone) (named_by c) (λ y named.
+          child_left y (not_named c none y named)
+          (member_passes (is_child g) y (named_by c) named children))) (λ d. d) ok
+
+  channels_kept : (p q : Channel → Bool) →
+      ((c : Channel) → p c ≡ true → q (emptied_of x c) ≡ true) → (cs : List Channel) →
+      list_all p cs ≡ true → list_all q (map (emptied_of x) cs) ≡ true
+  channels_kept p q kept cs all =
+      list_all-map q (emptied_of x) cs ∙ all_imply p (λ c. q (emptied_of x c)) kept cs all
+
+  listed_left : (test : Kind → Bool) (xs : List ℕ) →
+      list_all (row_passes g (λ r. test r.kind)) xs ≡ true →
+      list_all (row_passes gone (λ r. test r.kind)) (without x xs) ≡ true
+  listed_left test xs all = all_filter (row_passes gone (λ r. test r.kind)) (λ y. not (y == x)) xs
+      (all_imply (row_passes g (λ r. test r.kind)) (row_passes gone (λ r. test r.kind))
+      (passes test) xs all)
+
+  pub source_removed_shape : EditedShape (source_removed x g)
+  unfolding gone source_removed
+  source_removed_shape =
+      let channels : ChannelsFit g g.channels = shape.parts.beside.channels in
+      let r : RegistryFits g = shape.parts.registry in
+      thinner_shape childless thinner g shape (without x g.scenes) (without x g.inputs)
+      (map (emptied_of x) g.channels) held_less listed_less children_left
+      (record {
+        scenes_scenes = listed_left is_scene g.scenes r.scenes_scenes;
+        inputs_inputs = listed_left is_input g.inputs r.inputs_inputs;
+        registry_once = ap is_distinct listed
+            ∙ distinct_filter (λ y. not (y == x)) (registry g) r.registry_once;
+      })
+      (record {
+        channel_count = ap (λ n. n == 64) (length-map g.channels (emptied_of x))
+            ∙ channels.channel_count;
+        program_channel = ap (list_all (is_program_channel gone))
+            (take-map (emptied_of x) 1 g.channels)
+            ∙ channels_kept (is_program_channel g) (is_program_channel gone) program_kept
+            (take 1 g.channels) channels.program_channel;
+        side_channels = ap (list_all (is_side_channel gone))
+            (drop-map (emptied_of x) 1 g.channels)
+            ∙ channels_kept (is_side_channel g) (is_side_channel gone) side_kept
+            (drop 1 g.channels) channels.side_channels;
+      })

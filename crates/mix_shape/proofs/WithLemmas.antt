@@ -1,8 +1,7 @@
 -- What a new item makes of ranks, weights and numbers: so it is refused by the rows as they are.
-use Rattle.std.proofs.Common.{◌≡◌, ℕ, suc, ◌+◌, ◌≤◌, ◌<◌, ◌==◌, Bool, true, false, cond, not}
-use Rattle.std.proofs.Common.{◌&&◌, List, [], ◌∷◌, ◌++◌, map, length, Option, Some, None}
-use Rattle.std.proofs.Common.{refl, ap, sym, ◌∙◌, arith, nat_le, nat_lt, option_map}
-use Rattle.std.proofs.Common.{option_and_then}
+use Rattle.std.proofs.Common.{◌≡◌, ℕ, suc, ◌+◌, ◌≤◌, ◌<◌, ◌==◌, Bool, true, false, cond, not, ◌&&◌}
+use Rattle.std.proofs.Common.{List, [], ◌∷◌, ◌++◌, map, length, Option, Some, None, refl, ap, sym}
+use Rattle.std.proofs.Common.{◌∙◌, arith, nat_le, nat_lt, option_map, option_and_then}
 use Rattle.std.specs.List.{list_all, sum_by}
 use Rattle.std.specs.Option.{option_or}
 use Rattle.std.proofs.lemmas.Bool.Decides.{nat_tests}
@@ -13,25 +12,23 @@ use Rattle.mix_model.specs.declared.fault.GraphFault.{GraphFault}
 use Rattle.mix_model.specs.declared.fault.GraphFault.TheVariants.{Depth, TooMany, NoMemory}
 use Rattle.mix_model.specs.declared.kind.Kind.{Kind}
 use Rattle.mix_model.specs.declared.settings.Settings.{Settings}
-use Rattle.mix_model.specs.Rows.{new_row}
+use Rattle.mix_model.specs.Rows.{new_row, is_at, has_items, children_of, serials_of}
 use Rattle.mix_model.specs.Values.{new_sound}
 use Rattle.mix_model.specs.Edits.{item_added}
 use Rattle.mix_model.proofs.SetLemmas.{and_both}
 use Rattle.mix_model.proofs.DyingLemmas.{member_passes}
 use Rattle.mix_shape.specs.Created.{shown_added}
-use Rattle.mix_shape.proofs.FreshLemmas.{fresh_row}
-use Rattle.mix_shape.proofs.NamedLemmas.{no_cause}
-use Rattle.mix_shape.proofs.GrownShape.{below_other}
+use Rattle.mix_shape.proofs.ThinnerLemmas.{fresh_row}
+use Rattle.mix_shape.proofs.GrownShape.{no_cause, below_other}
 use Rattle.mix_model.specs.declared.item.Item.{Item}
 use Rattle.mix_model.specs.declared.item.ItemSpec.{ItemSpec}
 use Rattle.mix_model.specs.declared.row.Row.{Row}
 use Rattle.mix_model.specs.Sets.{greatest, is_distinct}
-use Rattle.mix_model.specs.Rows.{is_at, has_items, children_of, serials_of}
 use Rattle.mix_model.specs.Items.{with_item, new_item}
 use Rattle.mix_model.specs.Lookups.{find_row, has_row}
 use Rattle.mix_model.specs.Ranks.{inside_of, inside_in, rank_by, rank_over, rank_in, sum_of}
-use Rattle.mix_model.specs.Ranks.{weight_by, weight_over, weight_in, rank, weight}
-use Rattle.mix_model.specs.Ranks.{ranks_within, weights_within}
+use Rattle.mix_model.specs.Ranks.{weight_by, weight_over, weight_in, rank, weight, ranks_within}
+use Rattle.mix_model.specs.Ranks.{weights_within}
 use Rattle.mix_model.specs.State.{GraphState}
 use Rattle.mix_model.specs.Causes.{item_count, late_cause, first_cause}
 use Rattle.mix_model.proofs.AlikeLemmas.{Alike, rank_alike, weight_alike, inside_any}
@@ -39,8 +36,8 @@ use Rattle.mix_model.proofs.SteadyLemmas.{Steady, steady_found}
 use Rattle.mix_model.proofs.BlindLemmas.{all_congr}
 use Rattle.mix_model.proofs.DistinctLemmas.{row_is_listed}
 use Rattle.mix_shape.specs.declared.new_item.NewItem.{NewItem}
-use Rattle.mix_shape.specs.NewItems.{inside_with, inside_or_new, inside_new}
-use Rattle.mix_shape.specs.NewItems.{rank_with, weight_with, late_cause_with}
+use Rattle.mix_shape.specs.NewItems.{inside_with, inside_or_new, inside_new, rank_with, weight_with}
+use Rattle.mix_shape.specs.NewItems.{late_cause_with}
 use Rattle.mix_shape.proofs.SumLemmas.{one_if, times, times_present, distinct_times, sum_map}
 use Rattle.mix_shape.proofs.AddedShape.{at_parent, steady_parent}
 

@@ -1,10 +1,9 @@
 -- One row changed, and no other.
-use Rattle.std.proofs.Common.{◌≡◌, ℕ, zero, suc, ◌+◌, ◌<◌, ◌≤◌, Bool, true, false, not}
-use Rattle.std.proofs.Common.{cond, List, [], ◌∷◌, length, map, filter, find, get_or, slice_set}
-use Rattle.std.proofs.Common.{refl, ap, sym, ◌∙◌, arith, Some, None, ◌==◌}
-use Rattle.std.proofs.Common.{eqb-true, eq-eqb, subst}
+use Rattle.std.proofs.Common.{◌≡◌, ℕ, zero, suc, ◌+◌, ◌<◌, ◌≤◌, Bool, true, false, not, cond, List}
+use Rattle.std.proofs.Common.{[], ◌∷◌, length, map, filter, find, get_or, slice_set, refl, ap, sym}
+use Rattle.std.proofs.Common.{◌∙◌, arith, Some, None, ◌==◌, eqb-true, eq-eqb, subst, take, drop}
+use Rattle.std.proofs.Common.{◌++◌, length-append, take-append-drop}
 use Rattle.std.proofs.lemmas.List.Sums.{sum_by-cons}
-use Rattle.std.proofs.Common.{take, drop, ◌++◌, ◌-◌, length-append, take-append-drop}
 use Rattle.mix_model.specs.declared.row.Row.{Row}
 use Rattle.mix_model.specs.Sets.{has, is_distinct}
 use Rattle.mix_model.specs.Rows.{is_at, has_id, shows, new_row, serials_of}
@@ -15,14 +14,13 @@ use Rattle.mix_store.specs.RowEdits.{row_edited, item_edited}
 use Rattle.mix_store.specs.declared.row_edit.RowEdit.TheVariants.{Remove, Move, Change, Set, Rename}
 use Rattle.mix_model.specs.declared.kind.Kind.TheVariants.{Scene}
 use Rattle.mix_model.specs.declared.settings.Settings.TheVariants.{None as NoSettings}
-use Rattle.mix_model.specs.Items.{without_item, without_child, with_item_changed}
-use Rattle.mix_model.specs.Items.{with_item_at}
+use Rattle.mix_model.specs.Items.{without_item, without_child, with_item_changed, with_item_at}
 use Rattle.mix_model.specs.Values.{new_sound}
 use Rattle.mix_model.specs.Edits.{row_changed}
 use Rattle.std.proofs.lemmas.List.{length-map}
 use Rattle.mix_store.specs.declared.row_edit.RowEdit.{RowEdit}
 use Rattle.mix_model.proofs.SetLemmas.{and_first, and_second}
-use Rattle.mix_shape.proofs.FreshLemmas.{absent_row}
+use Rattle.mix_shape.proofs.ThinnerLemmas.{absent_row}
 use Rattle.mix_shape.proofs.SumLemmas.{sum_map, sum_less}
 use Rattle.std.proofs.lemmas.Bool.{not-true, or_left, or_right, false_from_ne_true, both_ways}
 use Rattle.std.proofs.lemmas.List.Filters.{length-filter_both}
@@ -42,11 +40,11 @@ unchanged x change (r ∷ rows) none = (elim (is_at x r) as (λ b.
       | false ↦ λ there. ap (λ rs. r ∷ rs) (unchanged x change rows there)
     ]) none
 
-pub differs : (y x : ℕ) (xs : List ℕ) → has y xs ≡ false → has x xs ≡ true → (y == x) ≡ false
+differs : (y x : ℕ) (xs : List ℕ) → has y xs ≡ false → has x xs ≡ true → (y == x) ≡ false
 differs y x xs none there = false_from_ne_true _ (λ same. both_ways _ none
     (ap (λ z. has z xs) (eqb-true y x same) ∙ there))
 
-pub at_has : (x : ℕ) (rows : List Row) (i : ℕ) (d : Row) → i < length rows →
+at_has : (x : ℕ) (rows : List Row) (i : ℕ) (d : Row) → i < length rows →
     (get_or rows i d).serial ≡ x → has x (serials_of rows) ≡ true
 at_has x [] i d below here = absurd (omega (arith, below))
 at_has x (r ∷ rows) zero d below here = or_left _ _ (eq-eqb r.serial x here)
@@ -82,7 +80,7 @@ set_serials (r ∷ rows) zero row d below same = ap (λ n. n ∷ serials_of rows
 set_serials (r ∷ rows) (suc i) row d below same =
     ap (λ ns. r.serial ∷ ns) (set_serials rows i row d (omega (arith, below)) same)
 
-count_cons : (row : Row) (rows : List Row) →
+pub count_cons : (row : Row) (rows : List Row) →
     item_count (row ∷ rows) ≡ length row.items + item_count rows
 count_cons row rows = sum_by-cons (λ (r : Row). length r.items) row rows
 
@@ -153,17 +151,14 @@ moved_items id index row = omega (
   length-filter_both (has_id id) (λ i. not (has_id id i)) (λ i. refl) row.items,
 )
 
-same_less : (a b : ℕ) → a ≡ b → a ≤ b
-same_less a b same = omega (arith, same)
-
 -- nor gives it more items
 pub edited_items : (edit : RowEdit) (row : Row) →
     length (row_edited edit row).items ≤ length row.items
 unfolding without_item with_item_changed
 edited_items (Remove id) row = filter_less (λ i. not (has_id id i)) row.items
-edited_items (Move id index) row = same_less _ _ (moved_items id index row)
-edited_items (Change id edit) row = same_less _ _
-    (length-map row.items (λ i. cond (has_id id i) (item_edited edit i) i))
+edited_items (Move id index) row = omega (arith, moved_items id index row)
+edited_items (Change id edit) row =
+    omega (arith, length-map row.items (λ i. cond (has_id id i) (item_edited edit i) i))
 edited_items (Set settings sound) row = omega arith
 edited_items (Rename name) row = omega arith
 

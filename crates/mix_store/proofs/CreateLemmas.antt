@@ -1,7 +1,6 @@
 -- Names, causes, and room for what is created.
-use Rattle.std.proofs.Common.{◌≡◌, ℕ, ◌+◌, ◌<◌, ◌≤◌, Bool, not}
-use Rattle.std.proofs.Common.{List, [], ◌∷◌, ◌++◌, length, filter, is_some}
-use Rattle.std.proofs.Common.{refl, ap, ◌∙◌, arith, Option, Some, None, length-append, subst}
+use Rattle.std.proofs.Common.{◌≡◌, ℕ, ◌+◌, ◌<◌, ◌≤◌, Bool, not, List, [], ◌∷◌, ◌++◌, length, filter}
+use Rattle.std.proofs.Common.{is_some, refl, ap, sym, ◌∙◌, arith, Option, Some, None, length-append}
 use Rattle.std.proofs.Common.{Err, option_copied}
 use denote.Ref.{Bor}
 use Rattle.mix_model.specs.declared.fault.GraphFault.{GraphFault}
@@ -18,7 +17,7 @@ use Rattle.mix_model.specs.Causes.{item_count}
 use Rattle.mix_shape.specs.Refused.{RefusedBy}
 use Rattle.mix_store.specs.Searched.{HasRoom, InOrder}
 use Rattle.mix_shape.proofs.GrownShape.{rises_more}
-use Rattle.mix_shape.proofs.FreshLemmas.{differ_more, below_more}
+use Rattle.mix_shape.proofs.ThinnerLemmas.{differ_more, below_more}
 
 -- a cause is a refusal
 pub refused_by : (T : Type 0) (cause : Option GraphFault) (fault : GraphFault) →
@@ -31,22 +30,16 @@ refused_by T cause Depth h other = h
 refused_by T cause (TooMany limit) h other = h
 refused_by T cause NoMemory h other = absurd (other h)
 
--- a refusal of one call is that of another
-pub refused_map : (T U : Type 0) (cause : Option GraphFault) (fault : GraphFault) →
-    RefusedBy {T = T} cause (Err fault) → RefusedBy {T = U} cause (Err fault)
-refused_map T U cause NotFound h = h
-refused_map T U cause WrongKind h = h
-refused_map T U cause Exists h = h
-refused_map T U cause Cycle h = h
-refused_map T U cause Depth h = h
-refused_map T U cause (TooMany limit) h = h
-refused_map T U cause NoMemory h = h
-
--- and so it is where the causes are one
+-- a refusal of one call is that of another of the same cause
 pub refused_same : (T U : Type 0) (a b : Option GraphFault) (fault : GraphFault) → a ≡ b →
     RefusedBy {T = T} a (Err fault) → RefusedBy {T = U} b (Err fault)
-refused_same T U a b fault same h =
-    refused_map T U b fault (subst (λ z. RefusedBy {T = T} z (Err fault)) same h)
+refused_same T U a b NotFound same h = sym same ∙ h
+refused_same T U a b WrongKind same h = sym same ∙ h
+refused_same T U a b Exists same h = sym same ∙ h
+refused_same T U a b Cycle same h = sym same ∙ h
+refused_same T U a b Depth same h = sym same ∙ h
+refused_same T U a b (TooMany limit) same h = sym same ∙ h
+refused_same T U a b NoMemory same h = sym same ∙ h
 
 -- there is room where there is room for all rows
 pub room_enough : (rows : List Row) (dying : List ℕ) (room : ℕ) →

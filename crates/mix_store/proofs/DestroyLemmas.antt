@@ -9,9 +9,8 @@ use Rattle.mix_model.specs.Sets.{has, without}
 use Rattle.mix_model.specs.Rows.{is_at, serials_of}
 use Rattle.mix_model.specs.Causes.{item_count}
 use Rattle.mix_store.specs.Searched.{InOrder, HasRoom}
-use Rattle.mix_shape.proofs.TestLemmas.{filter_both}
-use Rattle.mix_shape.proofs.DestroyedShape.{rises_kept}
-use Rattle.mix_shape.proofs.DestroyLemmas.{differ_left, below_left, items_left}
+use Rattle.mix_shape.proofs.SumLemmas.{filter_both}
+use Rattle.mix_shape.proofs.DestroyedShape.{rises_kept, differ_left, below_left, items_left}
 
 other_serials : (x : ℕ) (rows : List Row) →
     serials_of (filter (λ r. not (is_at x r)) rows) ≡ without x (serials_of rows)

@@ -3,6 +3,7 @@ use Rattle.std.proofs.Common.{◌≡◌, ℕ, zero, suc, ◌<◌, ◌==◌, Bool
 use Rattle.std.proofs.Common.{◌∷◌, ◌++◌, length, get_or, slice_set, find, None, refl, ap, sym}
 use Rattle.std.proofs.Common.{◌∙◌, arith, nat_lt, not}
 use Rattle.std.specs.List.{list_all}
+use Rattle.std.proofs.Math.Bool.{or_assoc, or-false, or-true}
 use Rattle.std.proofs.lemmas.Bool.{not-true, eq-eqb, ne_eqb}
 use Rattle.std.proofs.lemmas.Bool.Decides.{nat_tests}
 use Rattle.mix_model.specs.declared.row.Row.{Row}
@@ -11,7 +12,7 @@ use Rattle.mix_model.specs.Rows.{is_at, serials_of}
 use Rattle.mix_model.specs.Walks.{leads, most_steps}
 use Rattle.mix_model.proofs.SetLemmas.{and_first, and_second, all_imply}
 use Rattle.mix_model.proofs.FallLemmas.{rises_all}
-use Rattle.mix_shape.proofs.TestLemmas.{found_none}
+use Rattle.mix_shape.proofs.SumLemmas.{found_none}
 use Rattle.mix_store.specs.Searched.{flagged_also, next_in, reached_in}
 use Rattle.mix_store.proofs.KeyLemmas.{key_above}
 
@@ -23,25 +24,13 @@ flags_same p q same (row ∷ rows) [] = refl
 flags_same p q same (row ∷ rows) (flag ∷ flags) =
     rw (same row.serial, flags_same p q same rows flags)
 
-or_or : (a b c : Bool) → ((a || b) || c) ≡ (a || (b || c))
-or_or true b c = refl
-or_or false b c = refl
-
 -- one test after the other puts on what either of them does
 pub flags_either : (p q : ℕ → Bool) (rows : List Row) (flags : List Bool) →
     flagged_also q rows (flagged_also p rows flags) ≡ flagged_also (λ x. p x || q x) rows flags
 flags_either p q [] flags = refl
 flags_either p q (row ∷ rows) [] = refl
 flags_either p q (row ∷ rows) (flag ∷ flags) =
-    rw (or_or flag (p row.serial) (q row.serial), flags_either p q rows flags)
-
-or_false : (b : Bool) → (b || false) ≡ b
-or_false true = refl
-or_false false = refl
-
-or_true : (b : Bool) → (b || true) ≡ true
-or_true true = refl
-or_true false = refl
+    rw (or_assoc flag (p row.serial) (q row.serial), flags_either p q rows flags)
 
 -- a test that nothing passes puts on none
 pub flags_none : (p : ℕ → Bool) → ((x : ℕ) → p x ≡ false) → (rows : List Row) (flags : List Bool) →
@@ -49,7 +38,7 @@ pub flags_none : (p : ℕ → Bool) → ((x : ℕ) → p x ≡ false) → (rows 
 flags_none p none [] flags = refl
 flags_none p none (row ∷ rows) [] = refl
 flags_none p none (row ∷ rows) (flag ∷ flags) =
-    rw (none row.serial, or_false flag, flags_none p none rows flags)
+    rw (none row.serial, or-false flag, flags_none p none rows flags)
 
 -- where no row passes it, either
 flags_unmet : (p : ℕ → Bool) (rows : List Row) (flags : List Bool) →
@@ -58,7 +47,7 @@ flags_unmet p [] flags all = refl
 flags_unmet p (row ∷ rows) [] all = refl
 flags_unmet p (row ∷ rows) (flag ∷ flags) all = rw (
   not-true (p row.serial) (and_first _ _ all),
-  or_false flag,
+  or-false flag,
   flags_unmet p rows flags
       (and_second (not (p row.serial)) (list_all (λ r. not (p r.serial)) rows) all),
 )
@@ -83,7 +72,7 @@ flag_put s least (row ∷ rows) (flag ∷ flags) zero d rise same below here =
     let rest : rises_above s (serials_of rows) ≡ true =
     ap (λ n. rises_above n (serials_of rows)) (sym here) ∙ and_second _ _ rise in
     let stays : flagged_also (λ x. s == x) rows flags ≡ flags = flags_above s rows flags rest in
-    rw (own, or_true flag, stays)
+    rw (own, or-true flag, stays)
 flag_put s least (row ∷ rows) (flag ∷ flags) (suc i) d rise same below here =
     let more : row.serial < (get_or rows i d).serial =
     key_above (λ (r : Row). r.serial) d row.serial rows (and_second _ _ rise) i (omega (arith, below)) in
@@ -94,7 +83,7 @@ flag_put s least (row ∷ rows) (flag ∷ flags) (suc i) d rise same below here 
     let inside : i < length rows = omega (arith, below) in
     let rest : slice_set flags i true ≡ flagged_also (λ x. s == x) rows flags =
     flag_put s row.serial rows flags i d (and_second _ _ rise) each inside there in
-    rw (other, or_false flag, ← rest)
+    rw (other, or-false flag, ← rest)
 
 -- where no row has it, none is put on
 pub flag_absent : (s : ℕ) (rows : List Row) (flags : List Bool) → find (is_at s) rows ≡ None →
@@ -109,7 +98,7 @@ pub reached_both : (rows : List Row) (first second : List ℕ) (x : ℕ) →
 unfolding reached_in
 reached_both rows [] second x = refl
 reached_both rows (root ∷ first) second x = rw (reached_both rows first second x)
-    (sym (or_or (leads (next_in rows) most_steps root x) (reached_in rows first x)
+    (sym (or_assoc (leads (next_in rows) most_steps root x) (reached_in rows first x)
     (reached_in rows second x)))
 
 -- the flags of two lists of roots, one list after the other

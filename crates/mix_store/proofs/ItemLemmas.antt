@@ -1,12 +1,12 @@
 -- Why a new item is refused, and the rows with it.
-use Rattle.std.proofs.Common.{◌≡◌, ℕ, zero, suc, ◌<◌, ◌≤◌, Bool, true, false, not, List, []}
-use Rattle.std.proofs.Common.{◌∷◌, length, get_or, slice_set, find, refl, sym, ◌∙◌, arith}
-use Rattle.std.proofs.Common.{Option, Some, None, Err, eq-eqb}
+use Rattle.std.proofs.Common.{◌≡◌, ℕ, ◌<◌, ◌≤◌, Bool, true, false, not, List, [], ◌∷◌}
+use Rattle.std.proofs.Common.{length, get_or, slice_set, find, refl, sym, ◌∙◌, Option, Some}
+use Rattle.std.proofs.Common.{None, Err, Result, Ok, OnOk, OnErr, IfOk, is_some, is_none}
 use Rattle.mix_model.specs.declared.fault.GraphFault.{GraphFault}
 use Rattle.mix_model.specs.declared.fault.GraphFault.TheVariants.{Cycle, NotFound}
 use Rattle.mix_model.specs.declared.item.ItemSpec.{ItemSpec}
 use Rattle.mix_model.specs.declared.row.Row.{Row}
-use Rattle.mix_model.specs.Sets.{has, is_distinct}
+use Rattle.mix_model.specs.Sets.{is_distinct}
 use Rattle.mix_model.specs.Rows.{is_at, serials_of}
 use Rattle.mix_model.specs.Items.{with_item, spec_of}
 use Rattle.mix_model.specs.State.{GraphState}
@@ -14,15 +14,13 @@ use Rattle.mix_model.specs.Lookups.{row_of, is_row, item_at}
 use Rattle.mix_model.specs.Holders.{is_named, named_row_or_none}
 use Rattle.mix_model.specs.Walks.{is_chained}
 use Rattle.mix_model.specs.Edits.{item_added, item_duplicated}
-use Rattle.mix_model.specs.Causes.{item_early, item_late, item_cause, late_cause, item_count}
-use Rattle.mix_model.specs.Causes.{Cause, first_cause}
-use Rattle.mix_model.specs.Causes.{unknown, not_parent, copy_early, copy_late, copy_cause}
+use Rattle.mix_model.specs.Causes.{item_early, item_late, item_cause, late_cause, item_count, Cause}
+use Rattle.mix_model.specs.Causes.{first_cause, unknown, not_parent, copy_early, copy_late}
+use Rattle.mix_model.specs.Causes.{copy_cause}
 use Rattle.mix_model.specs.declared.item.Item.{Item}
-use Rattle.std.proofs.Common.{Result, Ok, OnOk, OnErr, IfOk, is_some, is_none}
-use Rattle.mix_store.specs.Searched.{InOrder}
-use Rattle.mix_model.proofs.SetLemmas.{and_first, and_second}
-use Rattle.std.proofs.lemmas.Bool.{not-true}
-use Rattle.mix_store.proofs.ChangeLemmas.{changed_at, at_has, differs, order_same, set_serials}
+use Rattle.mix_store.specs.Searched.{InOrder, RowsRise}
+use Rattle.mix_store.proofs.ChangeLemmas.{changed_at, order_same, set_serials}
+use Rattle.mix_store.proofs.KeyLemmas.{key_found}
 
 pub late_chained : (g after : GraphState) (parent child : ℕ) → is_chained g child parent ≡ true →
     item_late g parent child after ≡ Some Cycle
@@ -35,18 +33,9 @@ unfolding item_late late_cause
 late_free g after parent child free = rw free
 
 -- the row that has the serial is the one that is found
-pub found_at : (x : ℕ) (rows : List Row) (i : ℕ) (d : Row) →
-    is_distinct (serials_of rows) ≡ true → i < length rows → (get_or rows i d).serial ≡ x →
-    find (is_at x) rows ≡ Some (get_or rows i d)
-found_at x [] i d differ below here = absurd (omega (arith, below))
-found_at x (r ∷ rows) zero d differ below here = rw (eq-eqb r.serial x here)
-found_at x (r ∷ rows) (suc i) d differ below here =
-    let there : has x (serials_of rows) ≡ true =
-    at_has x rows i d (omega (arith, below)) here in
-    let first : has r.serial (serials_of rows) ≡ false = not-true _ (and_first _ _ differ) in
-    let other : is_at x r ≡ false = differs r.serial x (serials_of rows) first there in
-    let tail : is_distinct (serials_of rows) ≡ true = and_second _ _ differ in
-    rw other (found_at x rows i d tail (omega (arith, below)) here)
+pub found_at : (x : ℕ) (rows : List Row) (i : ℕ) (d : Row) → RowsRise rows → i < length rows →
+    (get_or rows i d).serial ≡ x → find (is_at x) rows ≡ Some (get_or rows i d)
+found_at x rows i d rise below here = key_found (λ (r : Row). r.serial) d 0 rows rise x i below here
 
 -- a row that is there is found
 pub no_row : (g : GraphState) (x : ℕ) → is_row g x ≡ true → find (is_at x) g.rows ≡ None → ⊥
@@ -102,8 +91,7 @@ goal_there g parent id to early = named_there g to (third_free (not (is_named g 
     (not_parent g to ∷ []) early)
 
 -- a copy is an item of the same child
-pub copy_put : (g : GraphState) (parent id to : ℕ) (item : Item) →
-    item_at g parent id ≡ Some item →
+pub copy_put : (g : GraphState) (parent id to : ℕ) (item : Item) → item_at g parent id ≡ Some item →
     item_duplicated parent id to g ≡ item_added to item.child (spec_of item) g
 unfolding item_duplicated item_added
 copy_put g parent id to item found = rw found refl
@@ -153,8 +141,7 @@ put_serials rows at child spec d below =
 -- the rows with the item are those of the edit
 pub added_rows : (g : GraphState) (parent child : ℕ) (spec : ItemSpec) (at : ℕ) (d : Row) →
     is_distinct (serials_of g.rows) ≡ true → at < length g.rows →
-    (get_or g.rows at d).serial ≡ parent →
-    (item_added parent child spec g).rows
+    (get_or g.rows at d).serial ≡ parent → (item_added parent child spec g).rows
     ≡ slice_set g.rows at (with_item child spec (get_or g.rows at d))
 unfolding item_added
 added_rows g parent child spec at d differ below here =

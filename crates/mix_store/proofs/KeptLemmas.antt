@@ -1,18 +1,18 @@
--- The marks and flags beside rows, and how many items they have.
-use Rattle.std.proofs.Common.{◌≡◌, ℕ, ◌+◌, ◌≤◌, Bool, false, List, [], ◌∷◌, ◌++◌, length, map, take}
-use Rattle.std.proofs.Common.{drop, refl, ap, sym, ◌∙◌, arith}
+-- The marks, flags and changes beside rows, and how many items they have.
+use Rattle.std.proofs.Common.{◌≡◌, ℕ, ◌≤◌, Bool, false, List, [], ◌∷◌, ◌++◌, length, map, take}
+use Rattle.std.proofs.Common.{drop, refl, ap, sym, ◌∙◌, arith, cond, true, find, Some, flat_map}
 use Rattle.std.proofs.lemmas.List.{length-map, drop_all, append-nil}
 use Rattle.std.proofs.Math.Seq.{take-length}
-use Rattle.std.proofs.lemmas.List.Sums.{sum_by-cons}
-use Rattle.std.proofs.Common.{cond, true}
 use Rattle.mix_model.specs.Rows.{is_at}
 use Rattle.mix_model.specs.Causes.{item_count}
-use Rattle.std.proofs.Common.{find, Some}
 use Rattle.mix_model.specs.declared.row.Row.{Row}
+use Rattle.mix_model.specs.declared.change.Change.{Change}
+use Rattle.mix_model.specs.Settle.{change_if}
 use Rattle.mix_model.specs.State.{GraphState}
 use Rattle.mix_model.specs.Marks.{Mark, settled_by, row_settled, marks_of, mark_of}
 use Rattle.mix_model.specs.Walks.{is_active, is_showing}
-use Rattle.mix_store.specs.Settling.{marked_by}
+use Rattle.mix_store.specs.Settling.{marked_by, told_by}
+use Rattle.mix_store.proofs.ChangeLemmas.{count_cons}
 
 -- the settling keeps the number of rows
 pub settled_length : (marks : List Mark) (g : GraphState) →
@@ -31,10 +31,6 @@ pub marked_all : (g : GraphState) → marked_by g.rows (map (λ r. is_active g r
     (map (λ r. is_showing g r.serial) g.rows) ≡ marks_of g
 marked_all g = marked_from g g.rows
 
-count_more : (row : Row) (rows : List Row) →
-    item_count (row ∷ rows) ≡ length row.items + item_count rows
-count_more row rows = sum_by-cons (λ (r : Row). length r.items) row rows
-
 -- a row has no more items than all rows together
 pub found_items : (x : ℕ) (rows : List Row) (row : Row) → find (is_at x) rows ≡ Some row →
     length row.items ≤ item_count rows
@@ -44,10 +40,10 @@ found_items x (r ∷ rows) row found =
     length row.items ≤ item_count (r ∷ rows)) [
       | true ↦ λ here. let same : r ≡ row = cc in
           let few : length row.items ≡ length r.items = ap (λ (z : Row). length z.items) (sym same) in
-          omega (arith, few, count_more r rows)
+          omega (arith, few, count_cons r rows)
       | false ↦ λ there. let few : length row.items ≤ item_count rows =
           found_items x rows row there in
-          omega (arith, few, count_more r rows)
+          omega (arith, few, count_cons r rows)
     ]) found
 
 -- flags that are all written
@@ -58,3 +54,12 @@ all_written now before n same count =
     drop_all (length now) before (omega (arith, same)) in
     let whole : n ≡ length now = count ∙ sym same in
     rw (none, append-nil now, whole, take-length now)
+
+-- the changes by flags are those by the test
+pub told_all : (made : ℕ → Bool → Change) (was now : ℕ → Bool) (rows : List Row) →
+    told_by made was rows (map (λ r. now r.serial) rows)
+    ≡ flat_map (λ r. change_if made (was r.serial) (now r.serial) r.serial) rows
+told_all made was now [] = refl
+told_all made was now (row ∷ rows) =
+    ap (λ cs. change_if made (was row.serial) (now row.serial) row.serial ++ cs)
+    (told_all made was now rows)

@@ -10,24 +10,20 @@ pub mod RootLemmas
 pub mod SettleLemmas
 -- names, causes, and room for what is created
 pub mod CreateLemmas
--- the flags and marks that a graph keeps beside its rows
+-- the flags, marks and changes that a graph keeps beside its rows
 pub mod KeptLemmas
 -- one row changed, and no other
 pub mod ChangeLemmas
 -- why a new item is refused, and the rows with it
 pub mod ItemLemmas
--- the rows that a frame lists
-pub mod FrameLemmas
 -- the row that is destroyed, and what is left
 pub mod DestroyLemmas
 -- the least serial above another
 pub mod NextLemmas
 -- an item that is raised to the top
 pub mod MoveLemmas
--- new sources with an item that shows them
-pub mod ShownLemmas
--- what has changed, row by row
-pub mod ToldLemmas
+-- a new item changes the rows near it alone
+pub mod NearLemmas
 -- why a call that creates or adds is refused, before it takes memory
 pub mod CheckLemmas
 -- edits that take no memory leave the number of rows, and the clock

@@ -1,38 +1,30 @@
 -- The least serial above another, found one by one.
 use Rattle.std.proofs.Common.{◌≡◌, ℕ, Bool, true, false, ◌==◌, ◌||◌, cond, nat_le, nat_lt}
 use Rattle.std.proofs.Common.{List, [], ◌∷◌, ◌++◌, Option, Some, None, refl, arith}
-use Rattle.std.proofs.Common.{take, length, get_or, ◌+◌, ◌<◌}
+use Rattle.std.proofs.Common.{take, length, get_or, ◌+◌, ◌<◌, eq-eqb}
 use Rattle.std.specs.List.{list_all}
 use Rattle.std.proofs.lemmas.Bool.Decides.{nat_tests}
 use Rattle.std.proofs.lemmas.List.{map_more}
+use Rattle.std.proofs.lemmas.List.Folds.{list_all-append}
 use Rattle.mix_model.specs.declared.row.Row.{Row}
 use Rattle.mix_model.specs.Sets.{has, is_next}
 use Rattle.mix_model.specs.Rows.{serials_of}
 use Rattle.mix_store.specs.Asked.{nearer}
-use Rattle.mix_model.proofs.SetLemmas.{and_first, and_second}
+use Rattle.mix_model.proofs.SetLemmas.{and_first, and_second, all_imply, or_left, or_right}
+use Rattle.mix_shape.proofs.ThinnerLemmas.{has_append}
 
 -- what holds of all, and of one more
 all_more : (p q : ℕ → Bool) → ((y : ℕ) → p y ≡ true → q y ≡ true) → (xs : List ℕ) (y : ℕ) →
     list_all p xs ≡ true → q y ≡ true → list_all q (xs ++ y ∷ []) ≡ true
-all_more p q step [] y all one = rw one refl
-all_more p q step (x ∷ xs) y all one =
-    let first : q x ≡ true = step x (and_first _ _ all) in
-    rw first (all_more p q step xs y (and_second _ _ all) one)
+all_more p q step xs y all one =
+    rw (list_all-append q xs (y ∷ []), all_imply p q step xs all, one) refl
 
 has_more : (z : ℕ) (xs : List ℕ) (y : ℕ) → has z xs ≡ true → has z (xs ++ y ∷ []) ≡ true
-has_more z [] y there = cc
-has_more z (x ∷ xs) y there = (elim (x == z) as (λ b.
-    (b || has z xs) ≡ true → (b || has z (xs ++ y ∷ [])) ≡ true) [
-      | true ↦ λ here. refl
-      | false ↦ λ later. has_more z xs y later
-    ]) there
+has_more z xs y there = rw (has_append z xs (y ∷ []), there) refl
 
 has_last : (xs : List ℕ) (y : ℕ) → has y (xs ++ y ∷ []) ≡ true
-has_last [] y = let same : (y == y) ≡ true = grind (arith, nat_tests) in rw same refl
-has_last (x ∷ xs) y = elim (x == y) as (λ b. (b || has y (xs ++ y ∷ [])) ≡ true) [
-  | true ↦ refl
-  | false ↦ has_last xs y
-]
+has_last xs y = rw (has_append y xs (y ∷ []))
+    (or_right (has y xs) _ (or_left (y == y) _ (eq-eqb y y refl)))
 
 first_above : (x y z : ℕ) → (nat_le y x || nat_le z y) ≡ false → nat_lt x y ≡ true
 first_above x y z near = grind (arith, nat_tests, near)

@@ -1,25 +1,32 @@
 -- What the settling by flags leaves, and the room of the dying list.
-use Rattle.std.proofs.Common.{◌≡◌, ℕ, suc, ◌+◌, ◌<◌, ◌≤◌, Bool, true, false, ◌||◌, not, cond}
+use Rattle.std.proofs.Common.{◌≡◌, ℕ, suc, ◌+◌, ◌<◌, ◌≤◌, Bool, true, false, ◌||◌, ◌&&◌, not, cond}
 use Rattle.std.proofs.Common.{List, [], ◌∷◌, ◌++◌, length, get_or, drop, map, filter, refl, ap, sym}
 use Rattle.std.proofs.Common.{◌∙◌, arith, append_assoc, length-append, append-nil, eq-eqb}
 use Rattle.std.proofs.lemmas.Bool.{or_left, or_right, not-true, both_ways}
 use Rattle.std.proofs.lemmas.List.{drop_more}
-use Rattle.std.proofs.lemmas.List.Sums.{sum_by-cons}
 use Rattle.mix_model.specs.declared.row.Row.{Row}
 use Rattle.mix_model.specs.Sets.{has}
 use Rattle.mix_model.specs.Rows.{serials_of}
 use Rattle.mix_model.specs.State.{GraphState}
 use Rattle.mix_model.specs.Marks.{Mark, row_settled, settled_by}
 use Rattle.mix_model.specs.Settle.{newly_dying}
-use Rattle.mix_model.specs.Walks.{is_active}
+use Rattle.mix_model.specs.Walks.{is_active, active_rows}
 use Rattle.mix_model.specs.Causes.{item_count}
+use Rattle.mix_model.specs.declared.item.ItemSpec.{ItemSpec}
+use Rattle.mix_model.specs.Edits.{item_added}
+use Rattle.mix_model.specs.Holders.{is_held}
+use Rattle.mix_model.specs.Shape.{GraphShape}
+use Rattle.mix_model.proofs.AddLemmas.{added_held}
+use Rattle.mix_model.proofs.SteadyLemmas.{steady_serials}
+use Rattle.mix_shape.proofs.FrameShape.{none_die}
+use Rattle.mix_shape.proofs.AddedShape.{at_parent, steady_parent}
 use Rattle.mix_model.proofs.SetLemmas.{and_both, and_second}
 use Rattle.mix_model.proofs.DyingLemmas.{has_filter}
 use Rattle.mix_shape.proofs.SumLemmas.{one_if}
-use Rattle.mix_shape.proofs.FreshLemmas.{has_append}
+use Rattle.mix_shape.proofs.ThinnerLemmas.{has_append}
 use Rattle.mix_store.specs.Searched.{HasRoom}
 use Rattle.mix_store.specs.Settling.{since_by, numbered, begins_to_die, flagged, with_numbers}
-use Rattle.mix_store.proofs.ChangeLemmas.{some_row}
+use Rattle.mix_store.proofs.ChangeLemmas.{some_row, count_cons}
 
 -- a row whose flag is on is the next to die
 pub flag_on : (rows : List Row) (flags : List Bool) (i : ℕ) (row : Row) →
@@ -58,8 +65,7 @@ room_for_one rows flags i row before now room same below there on so_far had =
     omega (arith, all, next, had)
 
 -- a row more is in the dying list
-pub one_more : (rows : List Row) (flags : List Bool) (i : ℕ) (row : Row)
-    (now all : List ℕ) →
+pub one_more : (rows : List Row) (flags : List Bool) (i : ℕ) (row : Row) (now all : List ℕ) →
     length flags ≡ length rows → i < length flags → row ≡ get_or rows i row →
     get_or flags i false ≡ true →
     now ++ flagged (drop i rows) (drop i flags) ≡ all →
@@ -80,30 +86,30 @@ flagged_by p (row ∷ rows) = elim (p row.serial) as (λ b.
       | false ↦ flagged_by p rows
     ]
 
--- what begins to die
-pub flagged_newly : (g : GraphState) →
-    flagged g.rows (map (λ r. begins_to_die g r.serial) g.rows) ≡ newly_dying g
-unfolding begins_to_die newly_dying
-flagged_newly g = flagged_by (begins_to_die g) g.rows
-
 -- the numbers are those of the settling
-numbered_by : (marks : List Mark) (g : GraphState) (rows : List Row) →
+pub numbered_by : (marks : List Mark) (g : GraphState) (rows : List Row) →
     numbered marks g.clock rows (map (λ r. is_active g r.serial) rows)
     ≡ map (row_settled marks g) rows
 unfolding row_settled
 numbered_by marks g [] = refl
 numbered_by marks g (row ∷ rows) = rw (numbered_by marks g rows)
 
-pub numbered_settled : (marks : List Mark) (g : GraphState) →
-    numbered marks g.clock g.rows (map (λ r. is_active g r.serial) g.rows)
-    ≡ map (row_settled marks g) g.rows
-numbered_settled marks g = numbered_by marks g g.rows
-
--- where nothing begins to die, numbers are all that is written
+-- where nothing begins to die, numbers are all that the settling writes
 pub settled_living : (marks : List Mark) (g : GraphState) → newly_dying g ≡ [] →
     with_numbers marks g ≡ settled_by marks g
 unfolding settled_by
 settled_living marks g none = rw (none, append-nil g.dying) refl
+
+-- an item takes no holder away, so no row begins to die
+pub item_lets_live : (parent child : ℕ) (spec : ItemSpec) (g : GraphState) → GraphShape g →
+    newly_dying (item_added parent child spec g) ≡ []
+unfolding item_added at_parent newly_dying
+item_lets_live parent child spec g shape =
+    let new : GraphState = item_added parent child spec g in
+    ap (filter (λ x. not (is_held new x) && not (has x g.dying)))
+    (steady_serials (at_parent parent child spec) (steady_parent parent child spec) g.rows)
+    ∙ none_die (is_held g) (is_held new) (λ x. has x g.dying)
+    (λ x held. added_held g parent child spec x ∙ or_left _ _ held) g.rows shape.dying_unheld
 
 first_kept : (p : ℕ → Bool) (x : ℕ) (xs : List ℕ) →
     length (filter p (x ∷ xs)) ≡ one_if (p x) + length (filter p xs)
@@ -133,8 +139,7 @@ one_place false true more was now = omega arith
 one_place false false true was now = omega arith
 one_place false false false was now = omega arith
 
-places : (g : GraphState) (p : ℕ → Bool) →
-    ((x : ℕ) → p x ≡ true → has x g.dying ≡ false) →
+places : (g : GraphState) (p : ℕ → Bool) → ((x : ℕ) → p x ≡ true → has x g.dying ≡ false) →
     length (filter (λ x. not (has x (g.dying ++ filter p (serials_of g.rows)))) (serials_of g.rows))
     + length (filter p (serials_of g.rows))
     ≤ length (filter (λ x. not (has x g.dying)) (serials_of g.rows))
@@ -155,8 +160,7 @@ room_for_new g room had = rw (flagged_by (begins_to_die g) g.rows)
     (omega (arith, places g (begins_to_die g) (begins_unlisted g), had))
 
 -- and then for the rows that don't die yet
-pub room_stays : (g : GraphState) (room : ℕ) → HasRoom g.rows g.dying room →
-    HasRoom g.rows
+pub room_stays : (g : GraphState) (room : ℕ) → HasRoom g.rows g.dying room → HasRoom g.rows
     (g.dying ++ flagged g.rows (map (λ r. begins_to_die g r.serial) g.rows)) room
 room_stays g room had = rw (
   flagged_by (begins_to_die g) g.rows,
@@ -171,24 +175,29 @@ serials_numbered marks clock (row ∷ rows) [] = refl
 serials_numbered marks clock (row ∷ rows) (flag ∷ flags) =
     ap (λ xs. row.serial ∷ xs) (serials_numbered marks clock rows flags)
 
--- numbers take no room
-pub room_numbered : (marks : List Mark) (clock : ℕ) (rows : List Row) (flags : List Bool)
-    (dying : List ℕ) (room : ℕ) → HasRoom rows dying room →
-    HasRoom (numbered marks clock rows flags) dying room
-room_numbered marks clock rows flags dying room had =
-    rw (serials_numbered marks clock rows flags) had
-
 -- numbers leave items
-count_numbered : (marks : List Mark) (clock : ℕ) (rows : List Row) (flags : List Bool) →
+pub count_numbered : (marks : List Mark) (clock : ℕ) (rows : List Row) (flags : List Bool) →
     item_count (numbered marks clock rows flags) ≡ item_count rows
 count_numbered marks clock [] flags = refl
 count_numbered marks clock (row ∷ rows) [] = refl
 count_numbered marks clock (row ∷ rows) (flag ∷ flags) =
-    sum_by-cons (λ (r : Row). length r.items)
-    (record row { since = since_by marks clock row.serial flag }) (numbered marks clock rows flags)
+    count_cons (record row { since = since_by marks clock row.serial flag })
+    (numbered marks clock rows flags)
     ∙ ap (λ n. length row.items + n) (count_numbered marks clock rows flags)
-    ∙ sym (sum_by-cons (λ (r : Row). length r.items) row rows)
+    ∙ sym (count_cons row rows)
 
-pub items_numbered : (marks : List Mark) (clock : ℕ) (rows : List Row) (flags : List Bool) →
-    item_count rows ≤ 2048 → item_count (numbered marks clock rows flags) ≤ 2048
-items_numbered marks clock rows flags few = rw (count_numbered marks clock rows flags) few
+-- no more rows have their flag on than there are
+pub flagged_few : (rows : List Row) (flags : List Bool) → length (flagged rows flags) ≤ length rows
+flagged_few [] flags = omega arith
+flagged_few (row ∷ rows) [] = omega arith
+flagged_few (row ∷ rows) (true ∷ flags) =
+    let few : length (flagged rows flags) ≤ length rows = flagged_few rows flags in
+    omega (arith, few)
+flagged_few (row ∷ rows) (false ∷ flags) =
+    let few : length (flagged rows flags) ≤ length rows = flagged_few rows flags in
+    omega (arith, few)
+
+-- the rows whose flag of activity is on are those that a frame lists
+pub flagged_active : (g : GraphState) →
+    flagged g.rows (map (λ r. is_active g r.serial) g.rows) ≡ active_rows g
+flagged_active g = flagged_by (is_active g) g.rows

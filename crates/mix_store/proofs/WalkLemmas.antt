@@ -1,8 +1,9 @@
 -- The flags that a walk puts on: those of its first row, and then those of its next rows.
-use Rattle.std.proofs.Common.{◌≡◌, ℕ, zero, suc, ◌+◌, ◌-◌, ◌<◌, Bool, true, false, ◌||◌}
-use Rattle.std.proofs.Common.{List, [], ◌∷◌, length, get_or, drop, map, find, filter}
-use Rattle.std.proofs.Common.{refl, ap, sym, ◌∙◌, arith, add-one, drop-cons, ◌==◌}
-use Rattle.std.proofs.Common.{Some, None}
+use Rattle.std.proofs.Common.{◌≡◌, ℕ, zero, suc, ◌+◌, ◌-◌, ◌<◌, Bool, true, false, ◌||◌, List, []}
+use Rattle.std.proofs.Common.{length, get_or, drop, map, find, filter, refl, ap, sym, ◌∙◌}
+use Rattle.std.proofs.Common.{arith, ◌==◌, Some, None}
+use Rattle.std.proofs.Math.Bool.{or-false}
+use Rattle.std.proofs.lemmas.List.{drop_more}
 use Rattle.std.specs.List.{list_any}
 use Rattle.mix_model.specs.declared.row.Row.{Row}
 use Rattle.mix_model.specs.declared.item.Item.{Item}
@@ -11,18 +12,11 @@ use Rattle.mix_model.specs.Walks.{leads}
 use Rattle.mix_store.specs.Searched.{flagged_also, next_in}
 use Rattle.mix_store.proofs.FlagLemmas.{flags_same, flags_either, flags_none}
 
-or_none : (b : Bool) → b ≡ (b || false)
-or_none true = refl
-or_none false = refl
-
 -- a walk from where no row is goes nowhere else
 stays_there : (next : ℕ → List ℕ) (rounds from x : ℕ) → next from ≡ [] →
     (from == x) ≡ leads next rounds from x
 stays_there next zero from x none = refl
-stays_there next (suc n) from x none = rw none (or_none (from == x))
-
-no_next : (rows : List Row) (from : ℕ) → find (is_at from) rows ≡ None → next_in rows from ≡ []
-no_next rows from none = rw none
+stays_there next (suc n) from x none = rw none (sym (or-false (from == x)))
 
 pub walk_stays : (rows : List Row) (rounds from : ℕ) (flags now : List Bool) →
     find (is_at from) rows ≡ None →
@@ -30,7 +24,7 @@ pub walk_stays : (rows : List Row) (rounds from : ℕ) (flags now : List Bool) �
     now ≡ flagged_also (leads (next_in rows) rounds from) rows flags
 walk_stays rows rounds from flags now none value = value
     ∙ flags_same (λ x. from == x) (leads (next_in rows) rounds from)
-    (λ x. stays_there (next_in rows) rounds from x (no_next rows from none)) rows flags
+    (λ x. stays_there (next_in rows) rounds from x (rw none)) rows flags
 
 -- what the items from an index on lead to
 abbrev pub led_by : (ℕ → List ℕ) → ℕ → List Item → ℕ → Bool
@@ -45,10 +39,6 @@ goes_on next (suc n) from x items some shown =
     let less : suc n - 1 ≡ n = omega arith in
     rw (less, shown)
 
-next_shown : (rows : List Row) (from : ℕ) (row : Row) → find (is_at from) rows ≡ Some row →
-    next_in rows from ≡ map (λ i. i.child) (filter is_visible row.items)
-next_shown rows from row found = rw found
-
 pub walk_starts : (rows : List Row) (rounds from : ℕ) (row : Row) (items : List Item)
     (flags now : List Bool) → (rounds ≡ 0 → ⊥) → find (is_at from) rows ≡ Some row →
     items ≡ row.items → now ≡ flagged_also (λ x. from == x) rows flags →
@@ -57,26 +47,11 @@ pub walk_starts : (rows : List Row) (rounds from : ℕ) (row : Row) (items : Lis
 walk_starts rows rounds from row items flags now some found same value =
     let step : (x : ℕ) → ((from == x) || led_by (next_in rows) (rounds - 1) row.items x)
     ≡ leads (next_in rows) rounds from x =
-    λ x. goes_on (next_in rows) rounds from x row.items some (next_shown rows from row found) in
+    λ x. goes_on (next_in rows) rounds from x row.items some (rw found) in
     rw (value, same)
     (flags_either (λ x. from == x) (led_by (next_in rows) (rounds - 1) row.items) rows flags
     ∙ flags_same (λ x. (from == x) || led_by (next_in rows) (rounds - 1) row.items x)
     (leads (next_in rows) rounds from) step rows flags)
-
-led_more : (next : ℕ → List ℕ) (n x : ℕ) (item : Item) (items : List Item) →
-    item.enabled ≡ true →
-    led_by next n (item ∷ items) x ≡ (leads next n item.child x || led_by next n items x)
-led_more next n x item items seen = rw seen
-
-led_hidden : (next : ℕ → List ℕ) (n x : ℕ) (item : Item) (items : List Item) →
-    item.enabled ≡ false → led_by next n (item ∷ items) x ≡ led_by next n items x
-led_hidden next n x item items hidden = rw hidden
-
-item_first : (items : List Item) (i : ℕ) (item : Item) → i < length items →
-    item ≡ get_or items i item → drop i items ≡ item ∷ drop (i + 1) items
-item_first items i item below there =
-    drop-cons items i item below
-    ∙ rw (sym there, add-one i)
 
 -- one item more, which is visible
 pub walk_seen : (next : ℕ → List ℕ) (n : ℕ) (rows : List Row) (items : List Item) (i : ℕ)
@@ -86,13 +61,10 @@ pub walk_seen : (next : ℕ → List ℕ) (n : ℕ) (rows : List Row) (items : L
     flagged_also (led_by next n (drop i items)) rows flags ≡ all →
     flagged_also (led_by next n (drop (i + 1) items)) rows now ≡ all
 walk_seen next n rows items i item flags now all below there seen value so_far =
-    rw value
-    (flags_either (leads next n item.child) (led_by next n (drop (i + 1) items)) rows flags
+    rw value (flags_either (leads next n item.child) (led_by next n (drop (i + 1) items)) rows flags
     ∙ flags_same (λ x. leads next n item.child x || led_by next n (drop (i + 1) items) x)
     (led_by next n (drop i items))
-    (λ x. sym (ap (λ z. led_by next n z x) (item_first items i item below there)
-    ∙ led_more next n x item (drop (i + 1) items) seen)) rows flags
-    ∙ so_far)
+    (λ x. rw (drop_more items i item below, ← there, seen) refl) rows flags ∙ so_far)
 
 -- and one that isn't
 pub walk_hidden : (next : ℕ → List ℕ) (n : ℕ) (rows : List Row) (items : List Item) (i : ℕ)
@@ -102,9 +74,7 @@ pub walk_hidden : (next : ℕ → List ℕ) (n : ℕ) (rows : List Row) (items :
     flagged_also (led_by next n (drop (i + 1) items)) rows flags ≡ all
 walk_hidden next n rows items i item flags all below there hidden so_far =
     flags_same (led_by next n (drop (i + 1) items)) (led_by next n (drop i items))
-    (λ x. sym (ap (λ z. led_by next n z x) (item_first items i item below there)
-    ∙ led_hidden next n x item (drop (i + 1) items) hidden)) rows flags
-    ∙ so_far
+    (λ x. rw (drop_more items i item below, ← there, hidden) refl) rows flags ∙ so_far
 
 -- no item is left
 pub walk_done : (next : ℕ → List ℕ) (n : ℕ) (rows : List Row) (items : List Item) (i : ℕ)

@@ -1,10 +1,10 @@
 -- Sources as the rows of a graph alone, and a flag for each row.
-use Rattle.std.specs.Prelude.{ℕ, Bool, List, [], ◌∷◌, ◌||◌, ◌+◌, ◌≤◌, ◌<◌, not, find}
+use Rattle.std.specs.Prelude.{ℕ, Bool, List, [], ◌∷◌, ◌||◌, ◌+◌, ◌≤◌, ◌<◌, not, find, ◌==◌}
 use Rattle.std.specs.Prelude.{slice_set, slice_index_or}
 use Rattle.mix_base.specs.Limits.{most_items, last_number}
 use Rattle.mix_model.specs.Items.{with_item}
 use Rattle.mix_model.specs.declared.item.ItemSpec.{ItemSpec}
-use Rattle.std.specs.Prelude.{length, filter, nat_lt, true, ◌≡◌, IsTrue}
+use Rattle.std.specs.Prelude.{length, filter, nat_lt, true, false, ◌≡◌, IsTrue}
 use Rattle.std.specs.List.{list_any, list_all}
 use Rattle.std.specs.Option.{option_map_or}
 use Rattle.mix_model.specs.declared.row.Row.{Row}
@@ -12,6 +12,9 @@ use Rattle.mix_model.specs.Sets.{has, is_distinct, rises_above}
 use Rattle.mix_model.specs.Rows.{is_at, serials_of, children_of, visible_children_of}
 use Rattle.mix_model.specs.Causes.{item_count}
 use Rattle.mix_model.specs.Walks.{leads, most_steps}
+use Rattle.mix_model.specs.Holders.{shows_some}
+use Rattle.mix_model.specs.Ranks.{shallow_in, light_in}
+use Rattle.mix_shape.specs.declared.new_item.NewItem.{NewItem}
 
 -- rows by rising serial
 abbrev pub RowsRise : List Row → Type 0
@@ -57,3 +60,20 @@ pub record InOrder (rows : List Row) (dying : List ℕ) (places next : ℕ) : Ty
 -- the item on top of the row at this place
 abbrev pub with_item_on : List Row → ℕ → ℕ → ItemSpec → Row → List Row
 with_item_on rows at child spec d = slice_set rows at (with_item child spec (slice_index_or rows at d))
+
+-- the row is the parent of a new item, or an item of it shows the parent
+abbrev pub is_near : NewItem → Row → Bool
+is_near new row = (row.serial == new.parent) || shows_some new.parent row
+
+-- where the row shows the parent, no row shows it
+abbrev pub is_top : ℕ → List Row → Row → Bool
+is_top parent rows row =
+    not (shows_some parent row) || not (list_any (shows_some row.serial) rows)
+
+-- a new item between rows that are no deeper or heavier than may be, where no row shows those that
+-- show its parent: so only the near ones get deeper or heavier
+pub record IsNear (new : NewItem) (rows : List Row) : Type 0 where
+  pub item : new.group ≡ false
+  pub tops : IsTrue (list_all (λ r. is_top new.parent rows r) rows)
+  pub shallow : IsTrue (shallow_in 16 rows)
+  pub light : IsTrue (light_in 4096 rows)

@@ -10,6 +10,7 @@ ghost use Rattle.mix_model.specs.Causes.{item_early, item_late, item_cause, copy
 ghost use Rattle.mix_model.specs.Edits.{item_added, item_duplicated};
 ghost use Rattle.std.specs.Prelude.{IfSome, IsTrue};
 ghost use Rattle.mix_model.specs.Items.{new_item, with_item, spec_of};
+ghost use Rattle.mix_model.specs.Shape.{GraphShape};
 ghost use Rattle.mix_shape.specs.Refused.{RefusedBy};
 ghost use Rattle.mix_store.specs.Searched.{with_item_on};
 ghost use Rattle.mix_model.specs.declared.item.ItemSpec.{ItemSpec};
@@ -17,7 +18,7 @@ ghost use Rattle.mix_model.specs.Lookups.{item_at};
 ghost use Rattle.mix_model.specs.Causes.{item_count};
 ghost use Rattle.std.specs.Prelude.{Some};
 
-use crate::refused::late_cause;
+use crate::refused::{are_tops, late_cause};
 use crate::row_edit::items_taken;
 use crate::search::{chains_to, has_items, place_of};
 use crate::sources::Sources;
@@ -133,6 +134,7 @@ impl Sources {
 
     /// Whether an item may show the child: it makes no circle, and no row gets too deep or too heavy.
     fn check_child(&self, parent: Serial, child: Serial) -> Result<(), GraphFault>
+        requires shape { GraphShape self.now }
         requires there { IsTrue (is_row self.now parent) }
         ensures few { OnOk result (item_count self.now.rows < 2048) }
         ensures refused { (spec : ItemSpec) → RefusedBy (item_late self.now parent child
@@ -147,7 +149,8 @@ impl Sources {
             group: false,
         };
         let rows = self.rows.as_slice();
-        match late_cause(rows, &new, rows.len()) {
+        let near = are_tops(rows, parent);
+        match late_cause(rows, &new, rows.len(), near) {
             Some(fault) => Err(fault),
             None => Ok(()),
         }
@@ -155,6 +158,7 @@ impl Sources {
 
     /// Whether an item may show the child on top of a scene or group.
     pub fn check_item(&self, parent: Serial, child: Serial) -> Result<(), GraphFault>
+        requires shape { GraphShape self.now }
         ensures there { OnOk result (IsTrue (is_row self.now parent)) }
         ensures few { OnOk result (item_count self.now.rows < 2048) }
         ensures refused { (spec : ItemSpec) → RefusedBy (item_cause self.now parent child
@@ -205,6 +209,7 @@ impl Sources {
 
     /// The item that may be copied to the top of a scene or group.
     pub fn check_copy(&self, parent: Serial, id: ItemId, to: Serial) -> Result<Item, GraphFault>
+        requires shape { GraphShape self.now }
         ensures item { IfOk result (λ item. item_at self.now parent id ≡ Some item) }
         ensures there { OnOk result (IsTrue (is_row self.now to)) }
         ensures few { OnOk result (item_count self.now.rows < 2048) }

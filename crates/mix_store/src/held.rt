@@ -43,7 +43,7 @@ fn is_named_by_some(channels: &[Channel], serial: Serial) -> bool
     channels.iter().any(|channel| names(*channel, serial))
 }
 
-fn is_shown_by_some(rows: &[Row], serial: Serial) -> bool
+pub fn is_shown_by_some(rows: &[Row], serial: Serial) -> bool
     ensures { result ≡ list_any (shows_some serial) rows.now }
 {
     rows.iter().any(|row| shows_some(row, serial))

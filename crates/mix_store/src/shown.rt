@@ -105,7 +105,7 @@ impl Sources {
             group: has_items(kind),
         };
         let rows = self.rows.as_slice();
-        match late_cause(rows, &new, rows.len() + 1) {
+        match late_cause(rows, &new, rows.len() + 1, false) {
             Some(fault) => Err(fault),
             None => Ok(()),
         }
@@ -173,7 +173,7 @@ impl Sources {
     }
 
     /// An input, last in the registry, with an item of its parent that shows it.
-    #[tactic(auto, using(crate::proofs::ShownLemmas::shown_input))]
+    #[tactic(auto, using(crate::proofs::CheckLemmas::shown_input))]
     pub fn create_shown_input(
         &mut self,
         alloc: Global,

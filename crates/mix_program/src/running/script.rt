@@ -1,5 +1,5 @@
 //! A run over a script, line by line.
-ghost use Rattle.std.specs.Prelude.{◌≡◌, ◌≢◌, ◌<◌, ◌≤◌, ◌+◌, ◌-◌, IsTrue, Ok, length, nat_lt};
+ghost use Rattle.std.specs.Prelude.{◌≡◌, ◌≢◌, ◌<◌, ◌≤◌, ◌+◌, ◌-◌, IsTrue, Ok, Err, length, nat_lt};
 ghost use Rattle.std.specs.Prelude.{[], IfSome, if◌then◌else◌};
 ghost use Rattle.mix_outside.specs.Lines.{lines_of};
 ghost use Rattle.mix_outside.specs.Faults.{Rose};
@@ -9,28 +9,28 @@ ghost use Rattle.mix_shape.specs.Refused.{are_limits};
 ghost use Rattle.mix_program.specs.Ends.{Ends, Turned, Follows, Finishing, ended_by};
 ghost use Rattle.mix_program.specs.Run.{run, turn, next_line, room_for};
 
+use crate::running::answering::put_answer;
 use crate::running::last_line::{end_at, refuse};
-use crate::running::lines::put_reply;
-use crate::running::{Ended, Finished, Wrote};
+use crate::running::{Ended, Finished};
 use mix_base::{Limits, PassNo};
 use mix_engine::{ActFault, Engine};
 use mix_model::Action;
 use mix_outside::{Met, ReadAhead, Sink, Source};
-use mix_script::{BadLine, lines_and_actions_stand_one_to_one, read_line};
+use mix_script::{BadLine, WriteFault, lines_and_actions_stand_one_to_one, read_line};
 use std::alloc::Global;
 
-/// How a run goes on behind a piece.
-fn ended_by(wrote: Wrote) -> Option<Ended>
+/// How a run goes on behind the lines of an answer.
+fn ended_by(wrote: Result<(), WriteFault>) -> Option<Ended>
     ensures value { result ≡ ended_by wrote }
     ensures finished { IfSome result (Finishing Finished.NotBuilt) }
     ensures read { result ≢ Some Ended.ReadFault }
-    ensures write { result ≡ Some Ended.WriteFault → wrote ≡ Wrote.WriteFault }
-    ensures steady { result ≢ Some Ended.WriteFault → wrote ≢ Wrote.WriteFault }
+    ensures write { result ≡ Some Ended.WriteFault → wrote ≡ Err WriteFault.Failed }
+    ensures steady { result ≢ Some Ended.WriteFault → wrote ≢ Err WriteFault.Failed }
 {
     match wrote {
-        Wrote::All => None,
-        Wrote::WriteFault => Some(Ended::WriteFault),
-        Wrote::NoMemory => Some(Ended::NoMemory),
+        Ok(()) => None,
+        Err(WriteFault::Failed) => Some(Ended::WriteFault),
+        Err(WriteFault::NoMemory) => Some(Ended::NoMemory),
     }
 }
 
@@ -60,7 +60,7 @@ fn act<K: Sink>(
     let canvas = engine.canvas();
     match engine.act(alloc, from, action) {
         Ok(Some(answer)) => {
-            let wrote = put_reply(alloc, out, canvas, &answer.reply);
+            let wrote = put_answer(alloc, out, canvas, &answer);
             drop(answer);
             ended_by(wrote)
         }

@@ -18,96 +18,95 @@ use Rattle.mix_json.proofs.tokens.+value.Goals as goal
 seen_first : (depth : ℕ) (ts : List Token) (t : Token) (rest : List Token) → ts ≡ t ∷ rest → value_at depth ts ≡ by_token depth t rest
 seen_first depth ts t rest e = ap (value_at depth) e ∙ value_by_token depth t rest
 
+-- no token is left
 pub value-returns-in_default-clause-not_json : goal.value-returns-in_default-clause-not_json
 value-returns-in_default-clause-not_json t c refused =
     let empty : c.args.tokens.now ≡ [] = grind arith in
     ap (value_at c.args.depth) empty ∙ no_token c.args.depth
 
-pub value-returns-in-Null-clause-value : goal.value-returns-in-Null-clause-value
-value-returns-in-Null-clause-value t c =
-    let rest = c.next.new.self in
-    let is : c.args.tokens.now ≡ Token.null ∷ rest = grind arith in
-    seen_first c.args.depth c.args.tokens.now Token.null rest is
+pub value_from-returns-in-Null-clause-value : goal.value_from-returns-in-Null-clause-value
+value_from-returns-in-Null-clause-value t c =
+    let rest = c.args.tokens.now in
+    let is : token_of c.args.token ∷ rest ≡ Token.null ∷ rest = grind arith in
+    seen_first c.args.depth (token_of c.args.token ∷ rest) Token.null rest is
 
-pub value-returns-in-Bool-clause-value : goal.value-returns-in-Bool-clause-value
-value-returns-in-Bool-clause-value t c =
-    let rest = c.next.new.self in
-    let is : c.args.tokens.now ≡ Token.boolean c.in-Bool.truth ∷ rest = grind arith in
-    seen_first c.args.depth c.args.tokens.now (Token.boolean c.in-Bool.truth) rest is
+pub value_from-returns-in-Bool-clause-value : goal.value_from-returns-in-Bool-clause-value
+value_from-returns-in-Bool-clause-value t c =
+    let rest = c.args.tokens.now in
+    let is : token_of c.args.token ∷ rest ≡ Token.boolean c.in-Bool.truth ∷ rest = grind arith in
+    seen_first c.args.depth (token_of c.args.token ∷ rest) (Token.boolean c.in-Bool.truth) rest is
 
-pub value-returns-in-Some-number-clause-value : goal.value-returns-in-Some-number-clause-value
-value-returns-in-Some-number-clause-value t c =
-    let rest = c.next.new.self in
+pub value_from-returns-in-Some-clause-value : goal.value_from-returns-in-Some-clause-value
+value_from-returns-in-Some-clause-value t c =
+    let rest = c.args.tokens.now in
     let text = c.in-Number.text.now in
-    let whole = c.in-Some-number.whole in
-    let is : c.args.tokens.now ≡ Token.number text ∷ rest = grind arith in
+    let whole = c.in-Some.whole in
+    let is : token_of c.args.token ∷ rest ≡ Token.number text ∷ rest = grind arith in
     let number : number_seen text ≡ Some (whole_or_frac whole) = seen_number text (Some whole) (grind arith) in
-    seen_first c.args.depth c.args.tokens.now (Token.number text) rest is ∙ ap (option_map (λ v. (v, rest))) number
+    seen_first c.args.depth (token_of c.args.token ∷ rest) (Token.number text) rest is ∙ ap (option_map (λ v. (v, rest))) number
     ∙ ap (λ v. Some (v, rest)) (sym c.whole_or_frac.ensures.value)
 
-pub value-returns-in-None-clause-not_json : goal.value-returns-in-None-clause-not_json
-value-returns-in-None-clause-not_json t c refused =
-    let rest = c.next.new.self in
+pub value_from-returns-in-None-clause-not_json : goal.value_from-returns-in-None-clause-not_json
+value_from-returns-in-None-clause-not_json t c refused =
+    let rest = c.args.tokens.now in
     let text = c.in-Number.text.now in
-    let is : c.args.tokens.now ≡ Token.number text ∷ rest = grind arith in
+    let is : token_of c.args.token ∷ rest ≡ Token.number text ∷ rest = grind arith in
     let none : number_seen text ≡ None = seen_number text None (grind arith) in
-    seen_first c.args.depth c.args.tokens.now (Token.number text) rest is ∙ ap (option_map (λ v. (v, rest))) none
+    seen_first c.args.depth (token_of c.args.token ∷ rest) (Token.number text) rest is ∙ ap (option_map (λ v. (v, rest))) none
 
-pub value-returns-in_ok-from_str-in-String-clause-value : goal.value-returns-in_ok-from_str-in-String-clause-value
-value-returns-in_ok-from_str-in-String-clause-value t c =
-    let rest = c.next.new.self in
+pub value_from-returns-in_ok-from_str-in-String-clause-value : goal.value_from-returns-in_ok-from_str-in-String-clause-value
+value_from-returns-in_ok-from_str-in-String-clause-value t c =
+    let rest = c.args.tokens.now in
     let text = c.in-String.text.now in
-    let is : c.args.tokens.now ≡ Token.string text ∷ rest = grind arith in
-    seen_first c.args.depth c.args.tokens.now (Token.string text) rest is
+    let is : token_of c.args.token ∷ rest ≡ Token.string text ∷ rest = grind arith in
+    seen_first c.args.depth (token_of c.args.token ∷ rest) (Token.string text) rest is
     ∙ ap (λ s. Some (json.Text s, rest)) (sym c.in_ok-from_str-in-String.ensures.value)
 
-pub value-returns-in-EndObject-clause-not_json : goal.value-returns-in-EndObject-clause-not_json
-value-returns-in-EndObject-clause-not_json t c refused =
-    let first : c.args.tokens.now ≡ token_of c.in-Some.token ∷ c.next.new.self = grind arith in
-    seen_first c.args.depth c.args.tokens.now (token_of c.in-Some.token) c.next.new.self first ∙ grind arith
+pub value_from-returns-in-EndObject-clause-not_json : goal.value_from-returns-in-EndObject-clause-not_json
+value_from-returns-in-EndObject-clause-not_json t c refused = value_by_token c.args.depth (token_of c.args.token) c.args.tokens.now ∙ grind arith
 
 -- a list, and an object
 
-pub value-returns-then-depth-eq0-clause-not_json : goal.value-returns-then-depth-eq0-clause-not_json
-value-returns-then-depth-eq0-clause-not_json t c refused =
-    let rest = c.next.new.self in
-    let is : c.args.tokens.now ≡ Token.begin_array ∷ rest = grind arith in
+pub value_from-returns-then-depth-eq0-clause-not_json : goal.value_from-returns-then-depth-eq0-clause-not_json
+value_from-returns-then-depth-eq0-clause-not_json t c refused =
+    let rest = c.args.tokens.now in
+    let is : token_of c.args.token ∷ rest ≡ Token.begin_array ∷ rest = grind arith in
     let none : c.args.depth ≡ 0 = omega arith in
-    seen_first c.args.depth c.args.tokens.now Token.begin_array rest is ∙ rw none
+    seen_first c.args.depth (token_of c.args.token ∷ rest) Token.begin_array rest is ∙ rw none
 
-pub value-returns-then-depth-eq0-2-clause-not_json : goal.value-returns-then-depth-eq0-2-clause-not_json
-value-returns-then-depth-eq0-2-clause-not_json t c refused =
-    let rest = c.next.new.self in
-    let is : c.args.tokens.now ≡ Token.begin_object ∷ rest = grind arith in
+pub value_from-returns-then-depth-eq0-2-clause-not_json : goal.value_from-returns-then-depth-eq0-2-clause-not_json
+value_from-returns-then-depth-eq0-2-clause-not_json t c refused =
+    let rest = c.args.tokens.now in
+    let is : token_of c.args.token ∷ rest ≡ Token.begin_object ∷ rest = grind arith in
     let none : c.args.depth ≡ 0 = omega arith in
-    seen_first c.args.depth c.args.tokens.now Token.begin_object rest is ∙ rw none
+    seen_first c.args.depth (token_of c.args.token ∷ rest) Token.begin_object rest is ∙ rw none
 
-pub value-returns-in_err-list-in-BeginArray-clause-not_json : goal.value-returns-in_err-list-in-BeginArray-clause-not_json
-value-returns-in_err-list-in-BeginArray-clause-not_json t c refused =
-    let rest = c.next.new.self in
-    let is : c.args.tokens.now ≡ Token.begin_array ∷ rest = grind arith in
-    seen_first c.args.depth c.args.tokens.now Token.begin_array rest is
+pub value_from-returns-in_err-list-in-BeginArray-clause-not_json : goal.value_from-returns-in_err-list-in-BeginArray-clause-not_json
+value_from-returns-in_err-list-in-BeginArray-clause-not_json t c refused =
+    let rest = c.args.tokens.now in
+    let is : token_of c.args.token ∷ rest ≡ Token.begin_array ∷ rest = grind arith in
+    seen_first c.args.depth (token_of c.args.token ∷ rest) Token.begin_array rest is
     ∙ ap (parse_map (λ vs. json.List vs)) (inside_is items_at c.args.depth rest (omega arith) ∙ c.list.ensures.not_json (grind arith))
 
-pub value-returns-in_err-object-in-BeginObject-clause-not_json : goal.value-returns-in_err-object-in-BeginObject-clause-not_json
-value-returns-in_err-object-in-BeginObject-clause-not_json t c refused =
-    let rest = c.next.new.self in
-    let is : c.args.tokens.now ≡ Token.begin_object ∷ rest = grind arith in
-    seen_first c.args.depth c.args.tokens.now Token.begin_object rest is
+pub value_from-returns-in_err-object-in-BeginObject-clause-not_json : goal.value_from-returns-in_err-object-in-BeginObject-clause-not_json
+value_from-returns-in_err-object-in-BeginObject-clause-not_json t c refused =
+    let rest = c.args.tokens.now in
+    let is : token_of c.args.token ∷ rest ≡ Token.begin_object ∷ rest = grind arith in
+    seen_first c.args.depth (token_of c.args.token ∷ rest) Token.begin_object rest is
     ∙ ap (parse_map (λ obj. json.Obj obj)) (inside_is object_at c.args.depth rest (omega arith) ∙ c.object.ensures.not_json (grind arith))
 
-pub value-returns-in_ok-list-in-BeginArray-clause-value : goal.value-returns-in_ok-list-in-BeginArray-clause-value
-value-returns-in_ok-list-in-BeginArray-clause-value t c =
-    let rest = c.next.new.self in
-    let is : c.args.tokens.now ≡ Token.begin_array ∷ rest = grind arith in
-    seen_first c.args.depth c.args.tokens.now Token.begin_array rest is
+pub value_from-returns-in_ok-list-in-BeginArray-clause-value : goal.value_from-returns-in_ok-list-in-BeginArray-clause-value
+value_from-returns-in_ok-list-in-BeginArray-clause-value t c =
+    let rest = c.args.tokens.now in
+    let is : token_of c.args.token ∷ rest ≡ Token.begin_array ∷ rest = grind arith in
+    seen_first c.args.depth (token_of c.args.token ∷ rest) Token.begin_array rest is
     ∙ ap (parse_map (λ vs. json.List vs)) (inside_is items_at c.args.depth rest (omega arith) ∙ c.in_ok-list-in-BeginArray.ensures.value)
 
-pub value-returns-in_ok-object-in-BeginObject-clause-value : goal.value-returns-in_ok-object-in-BeginObject-clause-value
-value-returns-in_ok-object-in-BeginObject-clause-value t c =
-    let rest = c.next.new.self in
-    let is : c.args.tokens.now ≡ Token.begin_object ∷ rest = grind arith in
-    seen_first c.args.depth c.args.tokens.now Token.begin_object rest is
+pub value_from-returns-in_ok-object-in-BeginObject-clause-value : goal.value_from-returns-in_ok-object-in-BeginObject-clause-value
+value_from-returns-in_ok-object-in-BeginObject-clause-value t c =
+    let rest = c.args.tokens.now in
+    let is : token_of c.args.token ∷ rest ≡ Token.begin_object ∷ rest = grind arith in
+    seen_first c.args.depth (token_of c.args.token ∷ rest) Token.begin_object rest is
     ∙ ap (parse_map (λ obj. json.Obj obj)) (inside_is object_at c.args.depth rest (omega arith) ∙ c.in_ok-object-in-BeginObject.ensures.value)
 
 -- ---- a list

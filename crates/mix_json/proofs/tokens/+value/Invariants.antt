@@ -4,20 +4,23 @@ use Rattle.mix_json.specs.Tokens.{items_at, members_at}
 use Rattle.mix_json.proofs.tokens.+value.Given as goal
 
 -- a list and an object are looked into with one less
+abbrev pub decreases-value_from : goal.decreases-value_from
+decreases-value_from l = 5 * l.depth
+
 abbrev pub decreases-value : goal.decreases-value
-decreases-value l = 4 * l.depth
+decreases-value l = 5 * l.depth + 1
 
 abbrev pub decreases-list : goal.decreases-list
-decreases-list l = 4 * l.depth + 1
+decreases-list l = 5 * l.depth + 2
 
 abbrev pub decreases-object : goal.decreases-object
-decreases-object l = 4 * l.depth + 3
+decreases-object l = 5 * l.depth + 4
 
 abbrev pub decreases-members : goal.decreases-members
-decreases-members l = 4 * l.depth + 2
+decreases-members l = 5 * l.depth + 3
 
 abbrev pub decreases-member : goal.decreases-member
-decreases-member l = 4 * l.depth + 1
+decreases-member l = 5 * l.depth + 2
 
 -- the items so far, then those of the tokens that are left, are all
 abbrev pub invariant-list-items : goal.invariant-list-items

@@ -1,4 +1,4 @@
-use Rattle.std.proofs.Common.{rules, ◌≡◌, ◌∙◌, ap, ap₂, sym, subst, refl, ℕ, ◌+◌, ◌-◌, ◌*◌, ◌/◌, ◌%◌, ◌^◌, ◌≤◌, ◌<◌, List, length, map, min, max, arith}
+use Rattle.std.proofs.Common.{◌∙◌, ap, ◌+◌, arith}
 use Rattle.std.proofs.Common.{slice_set}
 use Rattle.mix_model.specs.Blending.{faded}
 use Rattle.mix_lanes.proofs.Fades.{one_faded, all_faded}

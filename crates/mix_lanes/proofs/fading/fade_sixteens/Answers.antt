@@ -1,4 +1,4 @@
-use Rattle.std.proofs.Common.{rules, ◌≡◌, ◌∙◌, ap, ap₂, sym, subst, refl, ℕ, ◌+◌, ◌-◌, ◌*◌, ◌/◌, ◌%◌, ◌^◌, ◌≤◌, ◌<◌, List, length, map, min, max, arith}
+use Rattle.std.proofs.Common.{◌∙◌, refl, ◌+◌, arith}
 use Rattle.mix_model.specs.Blending.{faded}
 use Rattle.mix_lanes.proofs.Fades.{more_faded}
 use Rattle.mix_lanes.proofs.fading.fade_sixteens.Goals as goal

@@ -1,4 +1,4 @@
-use Rattle.std.proofs.Common.{rules, ◌≡◌, ◌∙◌, ap, ap₂, sym, subst, refl, ℕ, ◌+◌, ◌-◌, ◌*◌, ◌/◌, ◌%◌, ◌^◌, ◌≤◌, ◌<◌, List, length, map, min, max, arith}
+use Rattle.std.proofs.Common.{◌∙◌, ap, ap₂, refl}
 use Rattle.std.specs.Simd.Lanes.{put_chunk}
 use Rattle.mix_model.specs.Blending.{pixels_over}
 use Rattle.mix_lanes.proofs.LaneLemmas.{map_same, map_is}

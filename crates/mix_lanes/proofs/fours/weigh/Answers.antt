@@ -1,4 +1,4 @@
-use Rattle.std.proofs.Common.{rules, ◌≡◌, ◌∙◌, ap, ap₂, sym, subst, refl, ℕ, ◌+◌, ◌-◌, ◌*◌, ◌/◌, ◌%◌, ◌^◌, ◌≤◌, ◌<◌, List, length, map, min, max, arith}
+use Rattle.std.proofs.Common.{◌∙◌, sym, subst, ℕ, ◌+◌, ◌-◌, ◌*◌, ◌%◌, ◌^◌, List}
 use Rattle.mix_lanes.specs.Channels.{AreSums}
 use Rattle.mix_lanes.proofs.Sums.{weighed_is}
 use Rattle.mix_lanes.proofs.LaneLemmas.{weighed_lanes, all_weighed_small, length_weighed}

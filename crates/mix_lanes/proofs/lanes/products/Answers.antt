@@ -1,4 +1,4 @@
-use Rattle.std.proofs.Common.{rules, ◌≡◌, ◌∙◌, ap, ap₂, sym, subst, refl, ℕ, ◌+◌, ◌-◌, ◌*◌, ◌/◌, ◌%◌, ◌^◌, ◌≤◌, ◌<◌, List, length, map, min, max, arith}
+use Rattle.std.proofs.Common.{◌∙◌, sym, ◌*◌, ◌%◌, ◌^◌}
 use Rattle.std.proofs.lemmas.Simd.{length-zip2}
 use Rattle.mix_lanes.proofs.Sums.{product_is}
 use Rattle.mix_lanes.proofs.LaneLemmas.{product_lanes, products_small}

@@ -1,5 +1,5 @@
-use Rattle.std.proofs.Common.{rules, ◌≡◌, ◌∙◌, ap, ap₂, sym, subst, refl, ℕ, ◌+◌, ◌-◌, ◌*◌, ◌/◌, ◌%◌, ◌^◌, ◌≤◌, ◌<◌, List, length, map, min, max, arith}
-use Rattle.mix_lanes.proofs.Rows.{IsLaid, more_over, whole_row}
+use Rattle.std.proofs.Common.{◌∙◌, refl, ◌+◌, ◌/◌, arith}
+use Rattle.mix_lanes.proofs.Rows.{more_over, whole_row}
 use Rattle.mix_lanes.proofs.over.over_by.Goals as goal
 
 pub fours-init : goal.fours-init

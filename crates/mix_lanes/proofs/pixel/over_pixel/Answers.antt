@@ -1,4 +1,4 @@
-use Rattle.std.proofs.Common.{rules, ◌≡◌, ◌∙◌, ap, ap₂, sym, subst, refl, ℕ, ◌+◌, ◌-◌, ◌*◌, ◌/◌, ◌%◌, ◌^◌, ◌≤◌, ◌<◌, List, length, map, min, max, arith}
+use Rattle.std.proofs.Common.{refl, ◌+◌}
 use Rattle.mix_lanes.proofs.Rows.{one_over}
 use Rattle.mix_lanes.proofs.pixel.over_pixel.Goals as goal
 

@@ -1,4 +1,4 @@
-use Rattle.std.proofs.Common.{rules, ◌≡◌, ◌∙◌, ap, ap₂, sym, subst, refl, ℕ, ◌+◌, ◌-◌, ◌*◌, ◌/◌, ◌%◌, ◌^◌, ◌≤◌, ◌<◌, List, length, map, min, max, arith}
+use Rattle.std.proofs.Common.{◌∙◌, sym, subst, ℕ, ◌+◌, ◌-◌, ◌*◌, ◌/◌, ◌%◌, ◌^◌, List}
 use Rattle.std.proofs.lemmas.Simd.{length-zip2}
 use Rattle.mix_lanes.specs.Quotients.{weighted, AreFadeSums}
 use Rattle.mix_lanes.proofs.QuotientLemmas.{weighted_is, weighted_lanes, all_weighted_small}

@@ -5,7 +5,7 @@ use Rattle.mix_model.specs.Program.{set_program}
 use Rattle.mix_model.specs.Sets.{has}
 use Rattle.mix_model.specs.State.{ProgramState}
 use Rattle.mix_model.specs.Studio.{program_set}
-use Rattle.mix_shape.proofs.SceneLemmas.{scene_there}
+use Rattle.mix_shape.proofs.MarkedLemmas.{scene_there}
 use Rattle.mix_requests.specs.Sought.{scene_sought}
 use Rattle.mix_requests.proofs.ProperLemmas.{scene_short}
 use Rattle.mix_requests.proofs.MakingLemmas.{edited_alone_is, edited_begun_is}

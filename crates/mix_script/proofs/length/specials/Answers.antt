@@ -1,14 +1,32 @@
--- the iterator yields the places of both bytes, and there are as many as such bytes
-use Rattle.std.proofs.Common.{ℕ, List, ◌∙◌}
-use Rattle.std.proofs.lemmas.Iterator.Consumers.{YieldsList-from_first, count_from_yields_List}
-use Rattle.memchr.specs.Find.{places}
-use Rattle.memchr.proofs.lemmas.CallerLemmas.{length-places}
+-- one more block
+use Rattle.std.proofs.Common.{◌≡◌, ◌+◌, ◌≤◌, length, drop, arith}
+use Rattle.std.specs.Prelude.{count_by}
+use Rattle.std.proofs.lemmas.List.Sums.{count_by-le-length}
+use Rattle.std.proofs.lemmas.Simd.{length-chunk}
 use Rattle.mix_script.specs.Escapes.{is_special}
+use Rattle.mix_script.proofs.EscapeLemmas.{counted-block}
 use Rattle.mix_script.proofs.length.specials.Goals as goal
 
-pub returns-clause-value : goal.returns-clause-value
-returns-clause-value c =
-    let there = places is_special c.args.text.now in
-    let yields = YieldsList-from_first (λ (x : ℕ). x) (λ (rest : List ℕ). rest) there c.memchr2_iter.ensures.value in
-    count_from_yields_List c.memchr2_iter.result c.count.result c.count.ensures.ran yields
-    ∙ length-places is_special c.args.text.now
+pub blocks-2-preserved : goal.blocks-2-preserved
+blocks-2-preserved c =
+    let l = c.blocks-2 in
+    let text = c.args.text.now in
+    let block = counted-block is_special text l.at 64 in
+    record {
+      all = omega (arith, l.invariant.all, block, c.specials_of-found.ensures.value);
+      within = omega arith;
+    }
+
+-- a block has sixty-four bytes
+pub specials_of-found-requires : goal.specials_of-found-requires
+specials_of-found-requires c =
+    length-chunk c.blocks-2.at 64 c.args.text.now (omega (arith, c.blocks-2.invariant.within))
+
+-- there are no more of them than bytes
+pub overflow_add-found : goal.overflow_add-found
+overflow_add-found c =
+    let l = c.blocks-2 in
+    let text = c.args.text.now in
+    let block = counted-block is_special text l.at 64 in
+    let few = count_by-le-length is_special text in
+    omega (arith, l.invariant.all, block, c.specials_of-found.ensures.value, few)

@@ -1,8 +1,7 @@
 -- what is named is a named row of the sort that may be there
 use Rattle.mix_model.specs.Edits.{channel_set, preview_set, clock_set}
 use Rattle.mix_shape.proofs.WholeLemmas.{settled_keeps}
-use Rattle.mix_shape.proofs.ChannelShape.{channel_set_shape}
-use Rattle.mix_shape.proofs.HoldShape.{preview_set_shape, clock_set_shape}
+use Rattle.mix_shape.proofs.HoldShape.{channel_set_shape, preview_set_shape, clock_set_shape}
 use Rattle.mix_shape.proofs.laws.channels_preview_and_clock_keep_the_shape.Goals as goal
 
 pub returns-clause-channel : goal.returns-clause-channel

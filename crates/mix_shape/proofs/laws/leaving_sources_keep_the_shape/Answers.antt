@@ -1,7 +1,7 @@
 -- nothing names it any more, and no other row gains a holder
 use Rattle.mix_model.specs.Edits.{source_removed, next_destroyed}
 use Rattle.mix_shape.proofs.WholeLemmas.{settled_keeps}
-use Rattle.mix_shape.proofs.RemovedShape.{source_removed_shape}
+use Rattle.mix_shape.proofs.ThinnerShape.{source_removed_shape}
 use Rattle.mix_shape.proofs.DestroyedShape.{next_destroyed_shape}
 use Rattle.mix_shape.proofs.laws.leaving_sources_keep_the_shape.Goals as goal
 

@@ -1,5 +1,5 @@
 -- a new source is in the registry, or an item shows it
-use Rattle.mix_shape.proofs.LivingLemmas.{scene_lets_live, group_lets_live, input_lets_live}
+use Rattle.mix_shape.proofs.BareLemmas.{scene_lets_live, group_lets_live, input_lets_live}
 use Rattle.mix_shape.proofs.laws.new_sources_let_all_live.Goals as goal
 
 pub returns-clause-scene : goal.returns-clause-scene

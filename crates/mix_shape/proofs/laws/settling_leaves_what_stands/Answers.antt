@@ -1,5 +1,5 @@
 -- no number is written, and nothing begins to die
-use Rattle.mix_shape.proofs.UnchangedLemmas.{settles_still}
+use Rattle.mix_shape.proofs.FrameShape.{settles_still}
 use Rattle.mix_shape.proofs.laws.settling_leaves_what_stands.Goals as goal
 
 pub returns : goal.returns

@@ -17,5 +17,4 @@ returns c =
     drop_all c.loop-channel.channel-index c.args.channels.now c.loop-channel-test.false in
     sym (reached_none c.args.rows.now
     (flat_map named_by (drop c.loop-channel.channel-index c.args.channels.now))
-    c.loop-channel.flags (ap (flat_map named_by) none))
-    ∙ c.loop-channel.invariant
+    c.loop-channel.flags (ap (flat_map named_by) none)) ∙ c.loop-channel.invariant

@@ -3,8 +3,7 @@ use Rattle.std.proofs.Common.{◌≡◌, sym, ◌∙◌, ap, Some, None, option_
 use Rattle.std.proofs.lemmas.List.{drop_all}
 use Rattle.mix_model.specs.Rows.{is_at}
 use Rattle.mix_store.specs.Searched.{next_in}
-use Rattle.mix_store.proofs.WalkLemmas.{walk_stays, walk_starts, walk_seen, walk_hidden}
-use Rattle.mix_store.proofs.WalkLemmas.{walk_done}
+use Rattle.mix_store.proofs.WalkLemmas.{walk_stays, walk_starts, walk_seen, walk_hidden, walk_done}
 use Rattle.mix_store.proofs.search.+flag_walked.Goals as goal
 use Rattle.mix_store.proofs.search.+flag_walked.Goals.{then-item, else-item}
 

@@ -4,7 +4,7 @@ use Rattle.mix_model.specs.declared.change.Change.TheVariants.{Active as ActiveN
 use Rattle.mix_model.specs.declared.change.Change.TheVariants.{Showing as ShowingNow}
 use Rattle.mix_model.specs.Marks.{was_active, was_showing}
 use Rattle.mix_model.specs.Walks.{is_active, is_showing}
-use Rattle.mix_store.proofs.ToldLemmas.{told_all}
+use Rattle.mix_store.proofs.KeptLemmas.{told_all}
 use Rattle.mix_store.proofs.told.tell.Goals as goal
 
 pub returns-clause-items : goal.returns-clause-items

@@ -1,38 +1,31 @@
-use Rattle.std.proofs.Common.{◌∙◌, refl, subst}
+use Rattle.std.proofs.Common.{◌∙◌, ap, refl, subst, sym}
 use Rattle.mix_engine.specs.declared.heading.Heading.TheVariants as heading
-use Rattle.mix_engine.specs.Mixings.{IsMixing, mixed_of}
-use Rattle.mix_engine.proofs.Leavers.{gone_left, gone_mixing}
-use Rattle.mix_engine.proofs.Stepping.{closing_steps}
+use Rattle.mix_engine.specs.Leaving.{goes}
+use Rattle.mix_engine.specs.Mixings.{IsMixing}
+use Rattle.mix_engine.specs.StepAnswers.{mixed_without}
+use Rattle.mix_engine.proofs.Leavers.{gone_left}
+use Rattle.mix_engine.proofs.Shapes.{sound}
+use Rattle.mix_engine.proofs.Stepping.{closing_steps, of_seen}
 use Rattle.mix_engine.proofs.mixing.Mixing.close.Goals as goal
 
 -- the connection is gone, with what it held and watched
 pub invariant_of-self : goal.invariant_of-self
-invariant_of-self c = gone_mixing c.args.self.now
-    (subst IsMixing c.self.view_is c.self.invariant) c.args.conn
-    (heading.Closed c.args.conn c.args.code) c.let_go.new.self
-    (mixed_of c.self-2.inside.studio.present c.self-2.inside.notes c.end.new.self
-    c.self-2.inside.next_conn) c.in-Ok.ensures.ok
-    (subst IsMixing c.self-2.view_is c.self-2.invariant)
-    (gone_left c.args.self.now (subst IsMixing c.self.view_is c.self.invariant) c.args.conn (heading.Closed c.args.conn c.args.code)
-    c.self-2.inside.studio.present c.self-2.inside.notes c.self-2.inside.audience
-    c.self-2.inside.next_conn c.leave.new.self.listeners c.end.new.self
-    (c.self-2.view_is ∙ c.in-Ok.ensures.ok) c.self-2.invariant refl
-    (c.end.ensures.secret ∙ c.leave.ensures.secret) c.leave.ensures.listeners
-    c.end.ensures.listeners)
+invariant_of-self c = sound (subst IsMixing c.self.view_is c.self.invariant) (gone_left
+    (subst IsMixing c.self.view_is c.self.invariant) c.self-2.invariant c.args.conn
+    (heading.Closed c.args.conn c.args.code) c.leave.new.self.listeners c.end.new.self
+    (c.self-2.view_is ∙ c.in-Ok.ensures.ok) refl (c.end.ensures.secret ∙ c.leave.ensures.secret)
+    c.leave.ensures.listeners c.end.ensures.listeners)
 
 -- and is told what waited for it
 pub returns : goal.returns
 returns c = record {
-  steps = closing_steps c.self.inside.studio.present c.self.inside.notes
-      c.self.inside.audience c.self.inside.next_conn c.args.self.now c.self.view_is c.self.invariant
-      c.args.conn c.args.code c.saying.result (mixed_of c.self-2.inside.studio.present
-      c.self-2.inside.notes c.end.new.self c.self-2.inside.next_conn) c.saying.ensures.heading
-      (c.saying.ensures.said ∙ c.in_ok-said.ensures.said) c.saying.ensures.shot
-      c.saying.ensures.voices
-      (gone_left c.args.self.now (subst IsMixing c.self.view_is c.self.invariant) c.args.conn (heading.Closed c.args.conn c.args.code)
-      c.self-2.inside.studio.present c.self-2.inside.notes c.self-2.inside.audience
-      c.self-2.inside.next_conn c.leave.new.self.listeners c.end.new.self
-      (c.self-2.view_is ∙ c.in-Ok.ensures.ok) c.self-2.invariant refl
-      (c.end.ensures.secret ∙ c.leave.ensures.secret) c.leave.ensures.listeners
-      c.end.ensures.listeners);
+  steps = of_seen (λ m. goes m.mixer c.args.conn (heading.Closed c.args.conn c.args.code))
+      c.self.view_is (closing_steps c.self.invariant c.args.conn c.args.code c.saying.result _
+      c.saying.ensures.heading (c.saying.ensures.said ∙ c.in_ok-said.ensures.said)
+      c.saying.ensures.shot c.saying.ensures.voices (gone_left c.self.invariant
+      c.self-2.invariant c.args.conn (heading.Closed c.args.conn c.args.code)
+      c.leave.new.self.listeners c.end.new.self
+      (c.self-2.view_is ∙ c.in-Ok.ensures.ok ∙ ap (mixed_without c.args.conn) (sym c.self.view_is))
+      refl (c.end.ensures.secret ∙ c.leave.ensures.secret) c.leave.ensures.listeners
+      c.end.ensures.listeners).is);
 }

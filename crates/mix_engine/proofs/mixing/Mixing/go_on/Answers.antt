@@ -7,6 +7,5 @@ use Rattle.mix_engine.proofs.mixing.Mixing.go_on.Goals as goal
 pub returns : goal.returns
 returns c = record {
   steps = subst (Steps c.poll.result c.args.self.now c.poll.new.self)
-      (sym (goes_on_waiting c.args.self.now c.args.conn c.has_shape.ensures.shape))
-      c.poll.ensures.steps;
+      (sym (goes_on_waiting c.has_shape.ensures.shape c.args.conn)) c.poll.ensures.steps;
 }

@@ -1,6 +1,5 @@
 use Rattle.std.proofs.Common.{◌∙◌, sym}
 use Rattle.mix_audience.specs.Listeners.{listener_at}
-use Rattle.mix_engine.specs.Mixings.{mixed_of}
 use Rattle.mix_engine.proofs.HeardLemmas.{heard_steps, plain_heard}
 use Rattle.mix_engine.proofs.mixing.Mixing.hear_open.Goals as goal
 
@@ -13,9 +12,7 @@ do_heard-requires-clause-plain c = plain_heard c.self.inside.audience.secret c.a
 -- and is done
 pub returns : goal.returns
 returns c = record {
-  steps = heard_steps (mixed_of c.self.inside.studio.present c.self.inside.notes
-      c.self.inside.audience c.self.inside.next_conn) c.args.self.now c.args.conn
-      c.args.message.now c.in-Some.heard c.do_heard.result c.do_heard.new.self c.self.view_is
-      c.self.invariant c.requires.open (sym c.in-Some.is ∙ c.in_ok-hear.ensures.value)
-      c.do_heard.ensures.steps;
+  steps = heard_steps c.self.invariant c.self.view_is c.args.conn c.args.message.now
+      c.in-Some.heard c.do_heard.result c.do_heard.new.self c.requires.open
+      (sym c.in-Some.is ∙ c.in_ok-hear.ensures.value) c.do_heard.ensures.steps;
 }

@@ -8,9 +8,8 @@ use Rattle.mix_engine.proofs.mixing.Mixing.leave.Goals as goal
 -- it is open, and goes
 pub returns-in-None : goal.returns-in-None
 returns-in-None c = record {
-  steps = open_then c.args.self.now c.turn_away.new.self c.args.conn c.depart.result
-      c.depart.new.self (λ m. goes m.mixer c.args.conn (heading.Left c.args.conn))
-      c.has_shape.ensures.shape
+  steps = open_then c.has_shape.ensures.shape c.args.conn c.depart.result c.depart.new.self
+      (λ m. goes m.mixer c.args.conn (heading.Left c.args.conn))
       (subst (λ o. StepsWithout (Ok o) c.args.self.now c.turn_away.new.self c.args.conn)
       c.in-None.is c.in_ok-answer.ensures.steps) c.depart.ensures.steps;
 }

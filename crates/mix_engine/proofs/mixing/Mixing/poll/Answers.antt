@@ -8,9 +8,8 @@ use Rattle.mix_engine.proofs.mixing.Mixing.poll.Goals as goal
 -- it is open, and told what waits for it
 pub returns-in-None : goal.returns-in-None
 returns-in-None c = record {
-  steps = open_then c.args.self.now c.turn_away.new.self c.args.conn c.tell_waiting.result
+  steps = open_then c.has_shape.ensures.shape c.args.conn c.tell_waiting.result
       c.tell_waiting.new.self (λ m. only m.mixer (heading.Told c.args.conn) [])
-      c.has_shape.ensures.shape
       (subst (λ o. StepsWithout (Ok o) c.args.self.now c.turn_away.new.self c.args.conn)
       c.in-None.is c.in_ok-answer.ensures.steps) c.tell_waiting.ensures.steps;
 }

@@ -1,23 +1,19 @@
 -- there is one row more, and the sources are settled
-use Rattle.std.proofs.Common.{◌≡◌, ◌+◌, ap, length, arith}
-use Rattle.mix_model.specs.Marks.{edited}
+use Rattle.std.proofs.Common.{◌≡◌, ◌+◌, ap, length, arith, subst, Err, ◌∙◌}
+use Rattle.mix_model.specs.Marks.{edited, GraphModel}
 use Rattle.mix_store.specs.Settling.{Tallied}
-use Rattle.mix_store.proofs.ShownLemmas.{group_count}
+use Rattle.mix_store.proofs.CheckLemmas.{group_count, shown_group}
 use Rattle.mix_model.specs.Edits.{group_created, item_added}
-use Rattle.mix_shape.proofs.LivingLemmas.{group_lets_live}
+use Rattle.mix_shape.proofs.BareLemmas.{group_lets_live}
 use Rattle.mix_shape.proofs.CreatedShape.{group_created_shape}
 use Rattle.mix_store.proofs.CreateLemmas.{refused_same}
-use Rattle.mix_store.proofs.ShownLemmas.{shown_group}
 use Rattle.mix_model.specs.declared.settings.Settings.TheVariants.{None as NoSettings}
 use Rattle.mix_base.specs.declared.numbers.ItemId.{ItemId}
 use Rattle.mix_base.specs.declared.numbers.Serial.{Serial}
 use Rattle.mix_shape.specs.Refused.{RefusedBy}
-use Rattle.mix_model.specs.Marks.{GraphModel}
-use Rattle.std.proofs.Common.{subst, Err}
 use Rattle.mix_model.specs.Causes.{shown_cause}
 use Rattle.mix_shape.specs.Created.{shown_added}
 use Rattle.mix_model.specs.declared.kind.Kind.TheVariants.{Group}
-use Rattle.std.proofs.Common.{◌∙◌}
 use Rattle.mix_graph.proofs.graph.Graph.create_group.Goals as goal
 
 pub settle_living-requires : goal.settle_living-requires
@@ -55,12 +51,10 @@ pub returns-in-Err-clause-refused : goal.returns-in-Err-clause-refused
 returns-in-Err-clause-refused c =
     subst (λ (m : GraphModel). RefusedBy {T = (Serial × ItemId)} (shown_cause m.present c.args.name c.args.parent
     (group_created c.args.name c.args.parent c.args.spec m.present)) (Err c.in-Err.fault))
-    c.self.view_is
-    (refused_same (Unit {0}) (Serial × ItemId) _ _ c.in-Err.fault
+    c.self.view_is (refused_same (Unit {0}) (Serial × ItemId) _ _ c.in-Err.fault
     (ap (λ n. shown_cause c.self.inside.sources n c.args.parent
     (shown_added n Group NoSettings c.args.parent c.args.spec c.self.inside.sources))
-    c.bytes.ensures.value
-    ∙ ap (shown_cause c.self.inside.sources c.args.name c.args.parent)
+    c.bytes.ensures.value ∙ ap (shown_cause c.self.inside.sources c.args.name c.args.parent)
     (shown_group c.args.name c.args.parent c.args.spec c.self.inside.sources))
     (c.in-Err.ensures.refused NoSettings c.args.spec))
 

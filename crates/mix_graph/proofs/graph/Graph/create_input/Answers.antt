@@ -1,17 +1,14 @@
 -- there is one row more, and the sources are settled
-use Rattle.std.proofs.Common.{◌≡◌, ◌+◌, ap, length, arith}
-use Rattle.mix_model.specs.Marks.{edited}
+use Rattle.std.proofs.Common.{◌≡◌, ◌+◌, ap, length, arith, Option, subst, Err}
+use Rattle.mix_model.specs.Marks.{edited, GraphModel}
 use Rattle.mix_store.specs.Settling.{Tallied}
-use Rattle.mix_store.proofs.ShownLemmas.{input_count}
-use Rattle.mix_shape.proofs.LivingLemmas.{input_lets_live}
+use Rattle.mix_store.proofs.CheckLemmas.{input_count}
+use Rattle.mix_shape.proofs.BareLemmas.{input_lets_live}
 use Rattle.mix_shape.proofs.CreatedShape.{input_made_shape, made_clock, wanted_place}
 use Rattle.mix_store.proofs.CreateLemmas.{refused_same}
 use Rattle.mix_base.specs.declared.numbers.ItemId.{ItemId}
 use Rattle.mix_base.specs.declared.numbers.Serial.{Serial}
-use Rattle.std.proofs.Common.{Option}
 use Rattle.mix_shape.specs.Refused.{RefusedBy}
-use Rattle.mix_model.specs.Marks.{GraphModel}
-use Rattle.std.proofs.Common.{subst, Err}
 use Rattle.mix_shape.specs.Created.{input_cause, input_made}
 use Rattle.mix_graph.proofs.graph.Graph.create_input.Goals as goal
 
@@ -33,8 +30,7 @@ settle_living-requires c =
       begun = rw (
         c.in-Ok.ensures.ok,
         c.in-Ok-create_input.ensures.ok,
-        made_clock c.args.name
-            c.args.kind c.args.settings c.args.parent c.self.inside.sources,
+        made_clock c.args.name c.args.kind c.args.settings c.args.parent c.self.inside.sources,
       ) c.self.invariant.begun;
       living = rw c.in-Ok-create_input.ensures.ok (input_lets_live c.args.name c.args.kind
           c.args.settings c.args.parent c.self.inside.sources c.self.invariant.shape);
@@ -54,8 +50,7 @@ pub returns-in-Err-clause-refused : goal.returns-in-Err-clause-refused
 returns-in-Err-clause-refused c =
     subst (λ (m : GraphModel). RefusedBy {T = (Serial × Option ItemId)} (input_cause m.present c.args.name c.args.parent
     (input_made c.args.name c.args.kind c.args.settings c.args.parent m.present)) (Err c.in-Err.fault))
-    c.self.view_is
-    (refused_same (Unit {0}) (Serial × Option ItemId) _ _ c.in-Err.fault
+    c.self.view_is (refused_same (Unit {0}) (Serial × Option ItemId) _ _ c.in-Err.fault
     (ap (λ n. input_cause c.self.inside.sources n c.args.parent
     (input_made n c.args.kind c.args.settings c.args.parent c.self.inside.sources))
     c.bytes.ensures.value) (c.in-Err.ensures.refused c.args.settings))

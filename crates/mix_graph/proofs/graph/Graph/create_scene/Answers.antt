@@ -1,18 +1,14 @@
 -- there is one row more, and the sources are settled
-use Rattle.std.proofs.Common.{◌≡◌, ◌+◌, ap, length, arith}
-use Rattle.mix_model.specs.Marks.{edited}
+use Rattle.std.proofs.Common.{◌≡◌, ◌+◌, ap, length, arith, sym, ◌∙◌, subst, Err}
+use Rattle.mix_model.specs.Marks.{edited, GraphModel}
 use Rattle.mix_store.specs.Settling.{Tallied}
-use Rattle.mix_store.proofs.ShownLemmas.{scene_count}
+use Rattle.mix_store.proofs.CheckLemmas.{scene_count}
 use Rattle.mix_model.specs.Edits.{scene_created}
-use Rattle.mix_shape.proofs.LivingLemmas.{scene_lets_live}
+use Rattle.mix_shape.proofs.BareLemmas.{scene_lets_live, bare_scene}
 use Rattle.mix_shape.proofs.CreatedShape.{scene_created_shape}
 use Rattle.mix_store.proofs.CreateLemmas.{refused_same}
-use Rattle.mix_shape.proofs.BareLemmas.{bare_scene}
 use Rattle.mix_base.specs.declared.numbers.Serial.{Serial}
-use Rattle.std.proofs.Common.{sym, ◌∙◌}
 use Rattle.mix_shape.specs.Refused.{RefusedBy, bare_cause}
-use Rattle.mix_model.specs.Marks.{GraphModel}
-use Rattle.std.proofs.Common.{subst, Err}
 use Rattle.mix_model.specs.Causes.{scene_cause}
 use Rattle.mix_graph.proofs.graph.Graph.create_scene.Goals as goal
 
@@ -51,8 +47,7 @@ pub returns-in-Err-clause-refused : goal.returns-in-Err-clause-refused
 returns-in-Err-clause-refused c =
     subst (λ (m : GraphModel). RefusedBy {T = Serial} (scene_cause m.present c.args.name
     (scene_created c.args.name m.present)) (Err c.in-Err.fault))
-    c.self.view_is
-    (refused_same (Unit {0}) Serial _ _ c.in-Err.fault
+    c.self.view_is (refused_same (Unit {0}) Serial _ _ c.in-Err.fault
     (ap (bare_cause c.self.inside.sources) c.bytes.ensures.value
     ∙ sym (bare_scene c.args.name c.self.inside.sources c.self.invariant.shape))
     c.in-Err.ensures.refused)

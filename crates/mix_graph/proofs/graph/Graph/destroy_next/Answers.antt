@@ -1,10 +1,8 @@
 -- the flags are cut to the rows that are left, and the sources are settled
-use Rattle.std.proofs.Common.{◌≡◌, ◌≤◌, ap, length, arith}
+use Rattle.std.proofs.Common.{◌≡◌, ◌≤◌, ap, length, arith, refl}
 use Rattle.mix_model.specs.Marks.{edited}
 use Rattle.mix_store.specs.Settling.{Tallied}
-use Rattle.mix_shape.proofs.DestroyLemmas.{destroyed_less}
-use Rattle.mix_shape.proofs.DestroyedShape.{next_destroyed_shape, destroyed_clock}
-use Rattle.std.proofs.Common.{refl}
+use Rattle.mix_shape.proofs.DestroyedShape.{destroyed_less, next_destroyed_shape, destroyed_clock}
 use Rattle.mix_graph.proofs.graph.Graph.destroy_next.Goals as goal
 
 pub cut-requires : goal.cut-requires

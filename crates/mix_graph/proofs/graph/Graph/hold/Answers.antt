@@ -14,9 +14,5 @@ settle-requires c = record {
 
 pub returns-in-Ok-clause-ok : goal.returns-in-Ok-clause-ok
 unfolding edited
-returns-in-Ok-clause-ok c = rw (
-  c.settle.ensures.state,
-  c.settle.ensures.begun,
-  ← c.self.view_is,
-  c.in-Ok.ensures.ok,
-)
+returns-in-Ok-clause-ok c =
+    rw (c.settle.ensures.state, c.settle.ensures.begun, ← c.self.view_is, c.in-Ok.ensures.ok)

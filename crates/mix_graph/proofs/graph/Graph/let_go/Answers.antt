@@ -17,10 +17,6 @@ settle-requires c = record {
 pub returns : goal.returns
 unfolding edited
 returns c = record {
-  state = rw (
-    c.settle.ensures.state,
-    c.settle.ensures.begun,
-    ← c.self.view_is,
-    c.let_go.ensures,
-  ) refl;
+  state =
+      rw (c.settle.ensures.state, c.settle.ensures.begun, ← c.self.view_is, c.let_go.ensures) refl;
 }

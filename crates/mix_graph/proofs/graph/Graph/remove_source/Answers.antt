@@ -1,5 +1,5 @@
 -- a source that is removed leaves the others in shape
-use Rattle.mix_shape.proofs.RemovedShape.{source_removed_shape}
+use Rattle.mix_shape.proofs.ThinnerShape.{source_removed_shape}
 use Rattle.mix_graph.proofs.graph.Graph.remove_source.Goals as goal
 
 pub edit-requires : goal.edit-requires

@@ -1,7 +1,7 @@
 -- the edit leaves the rows, and the sources are settled
 use Rattle.mix_model.specs.Marks.{edited}
 use Rattle.mix_model.specs.Edits.{channel_set}
-use Rattle.mix_shape.proofs.ChannelShape.{channel_set_shape, neither_passes}
+use Rattle.mix_shape.proofs.HoldShape.{channel_set_shape, neither_passes}
 use Rattle.mix_shape.specs.Refused.{is_missing}
 use Rattle.std.proofs.Common.{sym, ◌∙◌}
 use Rattle.mix_graph.proofs.graph.Graph.set_channel.Goals as goal
@@ -20,9 +20,5 @@ settle-requires c = record {
 
 pub returns-clause-ok : goal.returns-clause-ok
 unfolding edited
-returns-clause-ok c = rw (
-  c.settle.ensures.state,
-  c.settle.ensures.begun,
-  ← c.self.view_is,
-  c.set_channel.ensures,
-)
+returns-clause-ok c =
+    rw (c.settle.ensures.state, c.settle.ensures.begun, ← c.self.view_is, c.set_channel.ensures)

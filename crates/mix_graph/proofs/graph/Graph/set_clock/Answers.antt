@@ -16,10 +16,6 @@ settle-requires c = record {
 pub returns : goal.returns
 unfolding edited
 returns c = record {
-  state = rw (
-    c.settle.ensures.state,
-    c.settle.ensures.begun,
-    ← c.self.view_is,
-    c.set_clock.ensures,
-  );
+  state =
+      rw (c.settle.ensures.state, c.settle.ensures.begun, ← c.self.view_is, c.set_clock.ensures);
 }

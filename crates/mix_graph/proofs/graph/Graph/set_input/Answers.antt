@@ -8,6 +8,5 @@ pub edit-requires : goal.edit-requires
 unfolding input_set
 edit-requires c = rw (← c.self.view_is)
     (set_shape c.args.serial c.args.settings c.args.sound c.self.inside.sources
-    c.self.invariant.shape
-    (not_missing c.self.inside.sources c.args.serial (sym c.is_named.ensures
+    c.self.invariant.shape (not_missing c.self.inside.sources c.args.serial (sym c.is_named.ensures
     ∙ c.if-not-is_named.false) (rw (← c.self.view_is) at c.requires.input)) c.requires.sound)

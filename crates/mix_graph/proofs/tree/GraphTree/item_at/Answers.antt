@@ -1,5 +1,5 @@
 -- the items of sources with the shape have valid places, and children that are rows
-use Rattle.mix_shape.proofs.TreeLemmas.{item_place, item_child}
+use Rattle.mix_shape.proofs.AddedShape.{item_place, item_child}
 use Rattle.mix_graph.proofs.tree.GraphTree.item_at.Goals as goal
 
 pub returns-clause-place : goal.returns-clause-place

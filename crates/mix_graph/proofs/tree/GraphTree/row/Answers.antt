@@ -1,7 +1,7 @@
 -- the rows of sources with the shape are valid
 use Rattle.std.proofs.Common.{refl}
 use Rattle.mix_model.specs.Lookups.{row_of}
-use Rattle.mix_shape.proofs.TreeLemmas.{valid_view}
+use Rattle.mix_shape.proofs.AddedShape.{valid_view}
 use Rattle.mix_graph.proofs.tree.GraphTree.row.Goals as goal
 
 pub returns-clause-valid : goal.returns-clause-valid

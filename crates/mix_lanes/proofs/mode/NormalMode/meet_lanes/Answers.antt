@@ -1,4 +1,4 @@
-use Rattle.std.proofs.Common.{rules, ◌≡◌, ◌∙◌, ap, ap₂, sym, subst, refl, ℕ, ◌+◌, ◌-◌, ◌*◌, ◌/◌, ◌%◌, ◌^◌, ◌≤◌, ◌<◌, List, length, map, min, max, arith}
+use Rattle.std.proofs.Common.{◌∙◌, sym}
 use Rattle.mix_lanes.proofs.LaneLemmas.{first_lanes}
 use Rattle.mix_lanes.proofs.mode.NormalMode.meet_lanes.Goals as goal
 

@@ -1,4 +1,4 @@
-use Rattle.std.proofs.Common.{rules, ◌≡◌, ◌∙◌, ap, ap₂, sym, subst, refl, ℕ, ◌+◌, ◌-◌, ◌*◌, ◌/◌, ◌%◌, ◌^◌, ◌≤◌, ◌<◌, List, length, map, min, max, arith}
+use Rattle.std.proofs.Common.{rules, ◌<◌, arith}
 use Rattle.mix_lanes.proofs.Sums.{screen_small}
 use Rattle.mix_lanes.proofs.mode.ScreenMode.meet.Goals as goal
 

@@ -2,7 +2,7 @@
 use Rattle.std.proofs.Common.{◌≡◌, ◌≤◌, ◌∙◌, arith, length, []}
 use Rattle.std.proofs.lemmas.Grind.{common_steps}
 use Rattle.mix_store.specs.Settling.{flagged}
-use Rattle.mix_store.proofs.FrameLemmas.{flagged_few, flagged_active}
+use Rattle.mix_store.proofs.SettleLemmas.{flagged_few, flagged_active}
 use Rattle.mix_store.proofs.KeptLemmas.{all_written}
 use Rattle.mix_store.proofs.sources.Sources.active_rows.Goals as goal
 

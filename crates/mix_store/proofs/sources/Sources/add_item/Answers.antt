@@ -21,7 +21,7 @@ push_item_at-requires-clause-drawn c = λ d.
     rw c.as_slice.ensures.value at c.in-Some.ensures.within in
     let here = rw c.as_slice.ensures.value at (c.in-Some.ensures.at d) in
     let found = found_at c.args.parent c.self.inside.rows.items c.in-Some.at d
-    c.self.invariant.differ below here in
+    c.self.invariant.rise below here in
     let drawn = rw (← c.self.view_is) at c.requires.drawn in
     rw found at drawn
 
@@ -48,7 +48,7 @@ returns-clause-reply c =
     rw c.as_slice.ensures.value at c.in-Some.ensures.within in
     let here = rw c.as_slice.ensures.value at (c.in-Some.ensures.at some_row) in
     let found = found_at c.args.parent c.self.inside.rows.items c.in-Some.at some_row
-    c.self.invariant.differ below here in
+    c.self.invariant.rise below here in
     reply_map _ _ c.push_item_at.result c.push_item_at.ensures.reply
     (λ id h. rw (← c.self.view_is, found) (h some_row))
 
@@ -58,8 +58,7 @@ returns-clause-ok c =
     let below : c.in-Some.at < length c.self.inside.rows.items =
     rw c.as_slice.ensures.value at c.in-Some.ensures.within in
     let here = rw c.as_slice.ensures.value at (c.in-Some.ensures.at some_row) in
-    ok_map _ _ c.push_item_at.result c.push_item_at.ensures.ok
-    (λ h. rw (
+    ok_map _ _ c.push_item_at.result c.push_item_at.ensures.ok (λ h. rw (
       ← c.self.view_is,
       h some_row,
       ← changed_at c.args.parent (with_item c.args.child c.args.spec.now)

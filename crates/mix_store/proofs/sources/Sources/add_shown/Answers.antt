@@ -6,8 +6,7 @@ use Rattle.mix_model.specs.Rows.{new_row}
 use Rattle.mix_model.specs.State.{GraphState}
 use Rattle.mix_store.proofs.ChangeLemmas.{some_row}
 use Rattle.mix_store.proofs.ItemLemmas.{found_at, no_row}
-use Rattle.mix_store.proofs.ShownLemmas.{shown_state, order_shown, shown_item}
-use Rattle.mix_store.proofs.CheckLemmas.{shown_few}
+use Rattle.mix_store.proofs.CheckLemmas.{shown_state, order_shown, shown_item, shown_few}
 use Rattle.mix_store.proofs.sources.Sources.add_shown.Goals as goal
 
 pub unreachable-requires : goal.unreachable-requires
@@ -23,7 +22,7 @@ push_shown-requires-clause-drawn c = λ d.
     rw c.as_slice.ensures.value at c.in-Some.ensures.within in
     let here = rw c.as_slice.ensures.value at (c.in-Some.ensures.at d) in
     let found = found_at c.args.parent c.self.inside.rows.items c.in-Some.at d
-    c.self.invariant.differ below here in
+    c.self.invariant.rise below here in
     let drawn = rw (← c.self.view_is) at c.requires.item_drawn in
     rw c.reserve_source.ensures.rows (rw found at drawn)
 
@@ -59,7 +58,7 @@ returns-in-Ok-push_shown-clause-item c =
     let here = rw (c.as_slice.ensures.value, rows)
     at (c.in-Some.ensures.at some_row) in
     shown_item c.args.self.now c.args.parent c.in-Some.at _ some_row
-    (rw rows at c.self.invariant.differ) within here
+    (rw rows at c.self.invariant.rise) within here
     (rw (c.reserve_source.ensures.rows, rows) at (c.in-Ok-push_shown.ensures.reply some_row))
 
 pub returns-in-Ok-push_shown-clause-ok : goal.returns-in-Ok-push_shown-clause-ok
@@ -76,6 +75,5 @@ returns-in-Ok-push_shown-clause-ok c =
       c.reserve_source.ensures.dying,
       c.reserve_source.ensures.list,
       c.new_row-row.ensures,
-    )
-    (shown_state c.args.name c.args.kind c.args.settings c.args.parent c.args.spec.now _
+    ) (shown_state c.args.name c.args.kind c.args.settings c.args.parent c.args.spec.now _
     c.in-Some.at some_row c.self.invariant.differ c.self.invariant.below below here)

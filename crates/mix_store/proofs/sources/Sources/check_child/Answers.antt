@@ -1,10 +1,27 @@
 -- the chain, and then the rows as they would be
-use Rattle.std.proofs.Common.{◌≡◌, ◌∙◌, sym, ap}
+use Rattle.std.proofs.Common.{◌≡◌, ◌∙◌, sym, ap, refl}
+use Rattle.mix_model.specs.Ranks.{ranks_within, weights_within}
 use Rattle.mix_model.specs.State.{GraphState}
 use Rattle.mix_store.proofs.ItemLemmas.{late_chained}
 use Rattle.mix_shape.proofs.WithLemmas.{late_few}
 use Rattle.mix_store.proofs.CheckLemmas.{item_refuses, item_allows}
 use Rattle.mix_store.proofs.sources.Sources.check_child.Goals as goal
+
+-- rows are no deeper or heavier than may be, and which rows are shown was asked
+pub late_cause-requires : goal.late_cause-requires
+unfolding ranks_within weights_within
+late_cause-requires c =
+    let rows : c.self.inside.rows.items ≡ c.args.self.now.rows =
+    ap (λ (g : GraphState). g.rows) c.self.view_is in
+    record {
+      rising = rw c.as_slice-rows.ensures.value c.self.invariant.rise;
+      near = λ near. rw (c.as_slice-rows.ensures.value, rows) (record {
+        item = refl;
+        tops = rw (c.are_tops-near.ensures, c.as_slice-rows.ensures.value, rows) at near;
+        shallow = c.requires.shape.limits.shallow;
+        light = c.requires.shape.limits.light;
+      });
+    }
 
 pub returns-then-is_chained-clause-refused : goal.returns-then-is_chained-clause-refused
 returns-then-is_chained-clause-refused c = λ spec. late_chained c.args.self.now _ c.args.parent

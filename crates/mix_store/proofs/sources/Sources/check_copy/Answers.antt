@@ -25,6 +25,7 @@ unreachable-requires c =
 
 pub check_child-requires : goal.check_child-requires
 check_child-requires c = record {
+  shape = c.requires.shape;
   there = goal_there c.args.self.now c.args.parent c.args.id c.args.to
       (sym c.copy_early-early.ensures ∙ c.in_default.is);
 }

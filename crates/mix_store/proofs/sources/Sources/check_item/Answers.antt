@@ -7,6 +7,7 @@ use Rattle.mix_store.proofs.sources.Sources.check_item.Goals as goal
 
 pub check_child-requires : goal.check_child-requires
 check_child-requires c = record {
+  shape = c.requires.shape;
   there = parent_there c.args.self.now c.args.parent c.args.child
       (sym c.item_early-early.ensures ∙ c.in_default.is);
 }

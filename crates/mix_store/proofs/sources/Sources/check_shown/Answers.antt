@@ -3,10 +3,13 @@ use Rattle.std.proofs.Common.{◌≡◌, ◌∙◌, sym, ap, None}
 use Rattle.mix_model.specs.Causes.{shown_early}
 use Rattle.mix_model.specs.State.{GraphState}
 use Rattle.mix_shape.specs.Created.{shown_added}
-use Rattle.mix_store.proofs.ShownLemmas.{shown_free, shown_there}
+use Rattle.mix_store.proofs.CheckLemmas.{shown_free, shown_there}
 use Rattle.mix_shape.proofs.WithLemmas.{late_few, late_shown}
 use Rattle.mix_store.proofs.CheckLemmas.{early_fault, shown_early_cause, late_refuses}
 use Rattle.mix_store.proofs.sources.Sources.check_shown.Goals as goal
+
+pub late_cause-requires-clause-near : goal.late_cause-requires-clause-near
+late_cause-requires-clause-near c = λ never. cc
 
 pub returns-in-Some-clause-refused : goal.returns-in-Some-clause-refused
 returns-in-Some-clause-refused c = λ settings spec. early_fault (Unit {0}) _ _ c.in-Some.fault

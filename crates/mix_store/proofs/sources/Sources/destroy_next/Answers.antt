@@ -1,7 +1,7 @@
 -- nothing dies, or the first goes with its row
 use Rattle.std.proofs.Common.{◌≡◌, ◌∙◌, sym, Some, None}
 use Rattle.std.specs.Prelude.{slice_get}
-use Rattle.mix_shape.proofs.DestroyLemmas.{none_destroyed, first_destroyed}
+use Rattle.mix_shape.proofs.DestroyedShape.{none_destroyed, first_destroyed}
 use Rattle.mix_store.proofs.DestroyLemmas.{order_destroyed}
 use Rattle.mix_store.proofs.sources.Sources.destroy_next.Goals as goal
 

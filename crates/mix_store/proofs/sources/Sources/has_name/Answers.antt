@@ -1,6 +1,6 @@
 -- the look-up finds no row that isn't named
 use Rattle.std.proofs.Common.{sym, ◌∙◌, ap, is_some}
-use Rattle.mix_shape.proofs.FreshLemmas.{name_found}
+use Rattle.mix_shape.proofs.ThinnerLemmas.{name_found}
 use Rattle.mix_store.proofs.CreateLemmas.{copied_some}
 use Rattle.mix_store.proofs.sources.Sources.has_name.Goals as goal
 

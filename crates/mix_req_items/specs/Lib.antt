@@ -1,0 +1,11 @@
+pub mod Numbers
+pub mod Finding
+pub mod Parts
+pub mod Changes
+pub mod Flags
+pub mod RemoveSceneItem
+pub mod SetSceneItemBlendMode
+pub mod CreateSceneItem
+pub mod DuplicateSceneItem
+pub mod Items
+pub mod Laws
