@@ -4,7 +4,6 @@ use Rattle.std.proofs.Common.{List, [], ◌∷◌, ◌++◌, All, map, find, get
 use Rattle.std.proofs.Common.{Option, Some, None, is_some, refl, sym, ap, subst}
 use Rattle.std.proofs.Common.{arith, eq-eqb, inl, inr}
 use Rattle.std.specs.List.{list_any}
-use Rattle.std.proofs.lemmas.List.{map-append}
 use Rattle.std.proofs.lemmas.List.Folds.{list_any-append}
 use Rattle.std.proofs.lemmas.List.Elements.{All-nil, All-push, All-map}
 use Rattle.mix_model.specs.declared.item.ItemSpec.{ItemSpec}
@@ -31,16 +30,14 @@ abbrev pub is_kept : List ℕ → List Row → Row → Bool
 is_kept registered rows r =
     has r.serial registered || (is_group r.kind && list_any (shows_some r.serial) rows)
 
--- rows under these names, each kept, with serials from 1 on
-pub record AreKept (called : List (List ℕ)) (registered : List ℕ) (rows : List Row) (next : ℕ) :
-    Type 0 where
-  pub titles : map (λ r. r.name) rows ≡ called
+-- rows each of which is kept, with serials from 1 on
+pub record AreKept (registered : List ℕ) (rows : List Row) (next : ℕ) : Type 0 where
   pub kept : All (λ r. is_kept registered rows r ≡ true) rows
   pub counted : All (λ r. 0 < r.serial) rows
   pub start : 0 < next
 
-abbrev pub Above : List (List ℕ) → GraphState → Type 0
-Above called g = AreKept called (registry g) g.rows g.next_serial
+abbrev pub Kept : GraphState → Type 0
+Kept g = AreKept (registry g) g.rows g.next_serial
 
 -- ---- rows stay kept
 
@@ -66,11 +63,10 @@ any_append : (x : ℕ) (rows more : List Row) → list_any (shows_some x) rows �
 any_append x rows more shown = list_any-append (shows_some x) rows more
     ∙ or_left (list_any (shows_some x) rows) (list_any (shows_some x) more) shown
 
--- ---- a change that serials, names and kinds don't see, and that takes no item
+-- ---- a change that serials and kinds don't see, and that takes no item
 
 record Keeps (f : Row → Row) : Type 0 where
   pub serial : (r : Row) → (f r).serial ≡ r.serial
-  pub title : (r : Row) → (f r).name ≡ r.name
   pub kind : (r : Row) → (f r).kind ≡ r.kind
   pub shown : (x : ℕ) (r : Row) → shows_some x r ≡ true → shows_some x (f r) ≡ true
 
@@ -81,11 +77,6 @@ serial_at : (change : Row → Row) → Keeps change → (r : Row) (b : Bool) →
     (cond b (change r) r).serial ≡ r.serial
 serial_at change keeps r true = keeps.serial r
 serial_at change keeps r false = refl
-
-title_at : (change : Row → Row) → Keeps change → (r : Row) (b : Bool) →
-    (cond b (change r) r).name ≡ r.name
-title_at change keeps r true = keeps.title r
-title_at change keeps r false = refl
 
 kind_at : (change : Row → Row) → Keeps change → (r : Row) (b : Bool) →
     (cond b (change r) r).kind ≡ r.kind
@@ -100,17 +91,9 @@ shown_at change keeps x r false shown = shown
 keeps_at : (x : ℕ) (change : Row → Row) → Keeps change → Keeps (changed x change)
 keeps_at x change keeps = record {
   serial = λ r. serial_at change keeps r (is_at x r);
-  title = λ r. title_at change keeps r (is_at x r);
   kind = λ r. kind_at change keeps r (is_at x r);
   shown = λ y r. shown_at change keeps y r (is_at x r);
 }
-
-titles_kept : (f : Row → Row) → Keeps f → (rows : List Row) →
-    map (λ r. r.name) (map f rows) ≡ map (λ r. r.name) rows
-titles_kept f keeps [] = refl
-titles_kept f keeps (r ∷ rows) =
-    ap (λ n. n ∷ map (λ r. r.name) (map f rows)) (keeps.title r)
-    ∙ ap (λ l. r.name ∷ l) (titles_kept f keeps rows)
 
 rows_shown : (f : Row → Row) → Keeps f → (x : ℕ) (rows : List Row) →
     list_any (shows_some x) rows ≡ true → list_any (shows_some x) (map f rows) ≡ true
@@ -123,11 +106,9 @@ rows_shown f keeps x (r ∷ rows) shown = elim (or_cases _ _ shown) [
 counted_at : (f : Row → Row) → Keeps f → (r : Row) → 0 < r.serial → 0 < (f r).serial
 counted_at f keeps r above = let P : ℕ → Type 0 = λ n. 0 < n in subst P (sym (keeps.serial r)) above
 
-mapped : (called : List (List ℕ)) (registered : List ℕ) (rows : List Row) (next : ℕ)
-    (f : Row → Row) → Keeps f → AreKept called registered rows next →
-    AreKept called registered (map f rows) next
-mapped called registered rows next f keeps are = record {
-  titles = titles_kept f keeps rows ∙ are.titles;
+mapped : (registered : List ℕ) (rows : List Row) (next : ℕ) (f : Row → Row) → Keeps f →
+    AreKept registered rows next → AreKept registered (map f rows) next
+mapped registered rows next f keeps are = record {
   kept = All-map (λ r. is_kept registered (map f rows) r ≡ true) f rows
       (λ k d within. row_kept registered registered rows (map f rows) (get_or rows k d)
       (f (get_or rows k d)) (keeps.serial (get_or rows k d)) (keeps.kind (get_or rows k d))
@@ -153,18 +134,14 @@ or_longer false false c some = cc
 next_above : (next : ℕ) → 0 < next → 0 < next + 1
 next_above next start = omega arith
 
-pushed : (called : List (List ℕ)) (registered more : List ℕ) (rows : List Row) (next : ℕ)
-    (name : List ℕ) (kind : Kind) (settings : Settings) →
-    AreKept called registered rows next →
+pushed : (registered more : List ℕ) (rows : List Row) (next : ℕ) (name : List ℕ) (kind : Kind)
+    (settings : Settings) → AreKept registered rows next →
     ((x : ℕ) → has x registered ≡ true → has x more ≡ true) → has next more ≡ true →
-    AreKept (called ++ name ∷ []) more (rows ++ new_row next name kind settings new_sound ∷ [])
-    (next + 1)
+    AreKept more (rows ++ new_row next name kind settings new_sound ∷ []) (next + 1)
 unfolding new_row
-pushed called registered more rows next name kind settings are grows itself =
+pushed registered more rows next name kind settings are grows itself =
     let row : Row = new_row next name kind settings new_sound in
     record {
-      titles = map-append (λ (r : Row). r.name) rows (row ∷ [])
-          ∙ ap (λ l. l ++ name ∷ []) are.titles;
       kept = All-push (λ r. is_kept more (rows ++ row ∷ []) r ≡ true) rows row
           (λ k d within. row_kept registered more rows (rows ++ row ∷ []) (get_or rows k d)
           (get_or rows k d) refl refl (grows (get_or rows k d).serial)
@@ -198,20 +175,18 @@ last_listed : (x : ℕ) (first : List ℕ) → has x (first ++ x ∷ []) ≡ tru
 last_listed x first = list_any-append (λ y. y == x) first (x ∷ [])
     ∙ or_right _ _ (or_left _ _ (eq-eqb x x refl))
 
-pub scene_above : (called : List (List ℕ)) (g : GraphState) (name : List ℕ) → Above called g →
-    Above (called ++ name ∷ []) (scene_created name g)
+pub scene_kept : (g : GraphState) (name : List ℕ) → Kept g → Kept (scene_created name g)
 unfolding scene_created
-scene_above called g name are = pushed called (registry g)
+scene_kept g name are = pushed (registry g)
     ((g.scenes ++ g.next_serial ∷ []) ++ g.inputs) g.rows g.next_serial name Scene NoSettings are
     (λ x. listed_left x g.scenes (g.next_serial ∷ []) g.inputs)
     (list_any-append (λ y. y == g.next_serial) (g.scenes ++ g.next_serial ∷ []) g.inputs
     ∙ or_left _ _ (last_listed g.next_serial g.scenes))
 
-pub input_above : (called : List (List ℕ)) (g : GraphState) (name : List ℕ) (kind : Kind)
-    (settings : Settings) → Above called g →
-    Above (called ++ name ∷ []) (input_created name kind settings g)
+pub input_kept : (g : GraphState) (name : List ℕ) (kind : Kind) (settings : Settings) → Kept g →
+    Kept (input_created name kind settings g)
 unfolding input_created
-input_above called g name kind settings are = pushed called (registry g)
+input_kept g name kind settings are = pushed (registry g)
     (g.scenes ++ (g.inputs ++ g.next_serial ∷ [])) g.rows g.next_serial name kind settings are
     (λ x. listed_right x g.scenes g.inputs (g.next_serial ∷ []))
     (list_any-append (λ y. y == g.next_serial) g.scenes (g.inputs ++ g.next_serial ∷ [])
@@ -223,16 +198,15 @@ keeps_with_item : (child : ℕ) (spec : ItemSpec) → Keeps (with_item child spe
 unfolding with_item
 keeps_with_item child spec = record {
   serial = λ r. refl;
-  title = λ r. refl;
   kind = λ r. refl;
   shown = λ x r shown. list_any-append (shows x) r.items (new_item r.next_item child spec ∷ [])
       ∙ or_left _ _ shown;
 }
 
-pub item_above : (called : List (List ℕ)) (g : GraphState) (parent child : ℕ) (spec : ItemSpec) →
-    Above called g → Above called (item_added parent child spec g)
+pub item_kept : (g : GraphState) (parent child : ℕ) (spec : ItemSpec) → Kept g →
+    Kept (item_added parent child spec g)
 unfolding item_added
-item_above called g parent child spec are = mapped called (registry g) g.rows g.next_serial
+item_kept g parent child spec are = mapped (registry g) g.rows g.next_serial
     (changed parent (with_item child spec))
     (keeps_at parent (with_item child spec) (keeps_with_item child spec)) are
 
@@ -262,19 +236,16 @@ shown_in x parent spec [] more there = cc
 shown_in x parent spec (r ∷ rows) more there = shown_first x parent spec r rows more
     (is_at parent r) refl there (shown_in x parent spec rows more)
 
-pub group_above : (called : List (List ℕ)) (g : GraphState) (name : List ℕ) (parent : ℕ)
-    (spec : ItemSpec) → is_some (row_of g parent) ≡ true → Above called g →
-    Above (called ++ name ∷ []) (group_created name parent spec g)
+pub group_kept : (g : GraphState) (name : List ℕ) (parent : ℕ) (spec : ItemSpec) →
+    is_some (row_of g parent) ≡ true → Kept g → Kept (group_created name parent spec g)
 unfolding group_created item_added new_row
-group_above called g name parent spec there are =
+group_kept g name parent spec there are =
     let row : Row = new_row g.next_serial name Group NoSettings new_sound in
     let f : Row → Row = changed parent (with_item g.next_serial spec) in
     let keeps : Keeps f = keeps_at parent (with_item g.next_serial spec)
     (keeps_with_item g.next_serial spec) in
     let rows : List Row = g.rows ++ row ∷ [] in
     record {
-      titles = titles_kept f keeps rows ∙ map-append (λ (r : Row). r.name) g.rows (row ∷ [])
-          ∙ ap (λ l. l ++ name ∷ []) are.titles;
       kept = All-map (λ r. is_kept (registry g) (map f rows) r ≡ true) f rows
           (All-push (λ r. is_kept (registry g) (map f rows) (f r) ≡ true) g.rows row
           (λ k d within. row_kept (registry g) (registry g) g.rows (map f rows)
@@ -299,28 +270,26 @@ group_above called g name parent spec there are =
 keeps_set : (settings : Settings) (sound : Sound) → Keeps (set_to settings sound)
 keeps_set settings sound = record {
   serial = λ r. refl;
-  title = λ r. refl;
   kind = λ r. refl;
   shown = λ x r shown. shown;
 }
 
-pub sound_above : (called : List (List ℕ)) (g : GraphState) (x : ℕ) (sound : Sound)
-    (found : Option Row) → Above called g → Above called (sound_set x sound found g)
+pub sound_kept : (g : GraphState) (x : ℕ) (sound : Sound) (found : Option Row) → Kept g →
+    Kept (sound_set x sound found g)
 unfolding input_set
-sound_above called g x sound None are = are
-sound_above called g x sound (Some row) are = mapped called (registry g) g.rows g.next_serial
+sound_kept g x sound None are = are
+sound_kept g x sound (Some row) are = mapped (registry g) g.rows g.next_serial
     (changed x (set_to row.settings sound))
     (keeps_at x (set_to row.settings sound) (keeps_set row.settings sound)) are
 
-pub channel_above : (called : List (List ℕ)) (g : GraphState) (number : ℕ) (channel : Channel) →
-    Above called g → Above called (channel_set number channel g)
+pub channel_kept : (g : GraphState) (number : ℕ) (channel : Channel) → Kept g →
+    Kept (channel_set number channel g)
 unfolding channel_set
-channel_above called g number channel are = are
+channel_kept g number channel are = are
 
-pub empty_above : Above [] empty_graph
+pub empty_kept : Kept empty_graph
 unfolding empty_graph
-empty_above = record {
-  titles = refl;
+empty_kept = record {
   kept = All-nil (λ r. is_kept [] [] r ≡ true);
   counted = All-nil (λ r. 0 < r.serial);
   start = omega arith;

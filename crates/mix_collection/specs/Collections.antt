@@ -1,6 +1,6 @@
 -- Which bytes are a collection that is built, and what it says.
 use Rattle.std.specs.Prelude.{ℕ, ℤ, pos, negsuc, ◌^◌, Bool, true, false, List, [], ◌∷◌}
-use Rattle.std.specs.Prelude.{length, take, drop, codes, bytes_eq, nat_le, nat_lt, ◌==◌, ◌&&◌, ◌||◌}
+use Rattle.std.specs.Prelude.{length, take, drop, codes, bytes_eq, nat_le, nat_lt, ◌&&◌, ◌||◌}
 use Rattle.std.specs.Prelude.{Option, Some, None, option_and_then, option_map, if◌then◌else◌}
 use Rattle.std.specs.List.{list_all}
 use Rattle.std.specs.Option.{option_or}
@@ -13,17 +13,19 @@ use Rattle.mix_json.specs.Reading.{json_of}
 use Rattle.mix_outside.specs.Lines.{Lines, End, Cut, Whole, lines_of}
 use Rattle.mix_model.specs.declared.collection.Collection.{Collection}
 use Rattle.mix_model.specs.declared.collection.Line.{Line}
-use Rattle.mix_model.specs.declared.collection.Line.TheVariants.{Scene, Input, Item}
+use Rattle.mix_model.specs.declared.collection.Line.TheVariants.{Scene, Input, Group, Item}
+use Rattle.mix_model.specs.declared.item.ItemSpec.{ItemSpec}
 use Rattle.mix_model.specs.declared.kind.Kind.{Kind}
-use Rattle.mix_model.specs.declared.kind.Blend.TheVariants.{Normal}
 use Rattle.mix_model.specs.declared.settings.Settings.{Settings}
 use Rattle.mix_model.specs.declared.settings.Settings.TheVariants.{None as NoSettings}
 use Rattle.mix_model.specs.Texts.{kind_named}
-use Rattle.mix_model.specs.Values.{is_canvas, is_format, new_place}
+use Rattle.mix_model.specs.Values.{is_canvas, is_format}
 use Rattle.mix_sources.specs.Checked.{checked}
 use Rattle.hex.specs.Hex.{decode_sized}
 use Rattle.std.specs.Result.{result_ok}
 use Rattle.mix_collection.specs.declared.registry.Registry.{Registry}
+use Rattle.mix_collection.specs.Options.{options_from}
+pub use Rattle.mix_collection.specs.Readers.{where_it, ◌>>=◌}
 
 -- what stands behind these bytes, where the line begins with them
 abbrev pub behind : List ℕ → List ℕ → Option (List ℕ)
@@ -68,10 +70,6 @@ both (Some a) (Some b) = Some (a, b)
 -- two whole numbers
 abbrev pub numbers_in : Json × Json → Option (ℕ × ℕ)
 numbers_in pair = both (number_in pair.0) (number_in pair.1)
-
--- the value, where the test holds of it
-abbrev pub where_it : {A : Type 0} → (A → Bool) → A → Option A
-where_it test a = if test a then Some a else None
 
 -- the first line names the format
 abbrev pub is_format_line : List ℕ → Bool
@@ -129,12 +127,6 @@ name_from value = option_and_then (where_it is_name) (as_text value)
 unfoldable pub name_in : List ℕ → List ℕ → Option (List ℕ)
 name_in word line =
     option_and_then name_from (option_and_then only_item (list_behind word line))
-
-infixl 10 ◌>>=◌
--- the next part, where this one is there
-abbrev pub ◌>>=◌ : {A B : Type 0} → Option A → (A → Option B) → Option B
-None >>= next = None
-(Some a) >>= next = next a
 
 -- the first line, where it has a line feed, and the lines behind it
 abbrev pub next : Lines → Option (List ℕ × Lines)
@@ -206,26 +198,36 @@ unfoldable pub input_in : ℕ × ℕ → List ℕ → Option Line
 input_in canvas line = option_and_then (input_from canvas)
     (option_and_then three_items (list_behind (codes "input") line))
 
--- an object without a key
-abbrev pub is_bare : Object → Bool
-is_bare given = length given == 0
+-- the names of two sources, and the options of an item
+abbrev pub placed_from : Json × Json × Json → Option (List ℕ × List ℕ × ItemSpec)
+placed_from items = do
+  first ← name_from items.0
+  second ← name_from items.1
+  options ← options_from items.2
+  Some (first, second, options)
 
--- an item: whose it is, what it shows, and no options. So it is enabled and not locked, stands at the
--- default place, and covers what is below it
-abbrev pub item_from : Json × Json × Json → Option Line
-item_from items = do
-  parent ← name_from items.0
-  child ← name_from items.1
-  options ← option_and_then (where_it is_bare) (as_obj items.2)
-  Some (Item parent child true false new_place Normal)
+unfoldable pub placed_in : List ℕ → List ℕ → Option (List ℕ × List ℕ × ItemSpec)
+placed_in word line =
+    option_and_then placed_from (option_and_then three_items (list_behind word line))
+
+-- a group: its name, and whose item shows it
+abbrev pub group_of : List ℕ × List ℕ × ItemSpec → Line
+group_of p = Group p.0 p.1 p.2.enabled p.2.locked p.2.place p.2.blend
+
+unfoldable pub group_in : List ℕ → Option Line
+group_in line = option_map group_of (placed_in (codes "group") line)
+
+-- an item: whose it is, and what it shows
+abbrev pub item_of : List ℕ × List ℕ × ItemSpec → Line
+item_of p = Item p.0 p.1 p.2.enabled p.2.locked p.2.place p.2.blend
 
 unfoldable pub item_in : List ℕ → Option Line
-item_in line =
-    option_and_then item_from (option_and_then three_items (list_behind (codes "item") line))
+item_in line = option_map item_of (placed_in (codes "item") line)
 
 -- what a line says that stands between the head and the program's line
 unfoldable pub line_in : ℕ × ℕ → List ℕ → Option Line
-line_in canvas line = option_or (scene_in line) (option_or (input_in canvas line) (item_in line))
+line_in canvas line = option_or (scene_in line)
+    (option_or (input_in canvas line) (option_or (group_in line) (item_in line)))
 
 -- nothing is left
 abbrev pub is_end : Lines → Bool

@@ -1,6 +1,7 @@
 pub mod Collections
-pub mod Fitting
 pub mod Laws
 pub mod Names
+pub mod Options
 pub mod Read
+pub mod Readers
 pub mod Within

@@ -1,8 +1,9 @@
 -- What the readers of a collection answer, over the lines that were left and are left.
-use Rattle.std.specs.Prelude.{◌≡◌, ℕ, ◌++◌, codes, true, false, List}
+use Rattle.std.specs.Prelude.{◌≡◌, ℕ, ◌++◌, codes, true, false, List, []}
 use Rattle.std.specs.Prelude.{Option, Some, None, option_map, Result, Ok, Err, IsTrue}
 use Rattle.mix_base.specs.Rates.{is_rate}
 use Rattle.mix_outside.specs.Lines.{Lines, Whole}
+use Rattle.mix_model.specs.Fitting.{channel_number}
 use Rattle.mix_model.specs.Values.{is_canvas, is_format}
 use Rattle.mix_model.specs.declared.collection.Collection.{Collection}
 use Rattle.mix_model.specs.declared.collection.Line.{Line}
@@ -62,6 +63,10 @@ behind_canvas canvas lines = part_in rate_in lines >>= (λ rate.
       tracks = recorded.0.1;
       rest = recorded.1;
     })))
+
+-- the line sets no channel
+abbrev pub SetsNoChannel : Line → Type 0
+SetsNoChannel line = channel_number line ≡ []
 
 -- the head was read that is defined, and these lines are left
 abbrev pub IsHead : Option HeadLines → Result Head CollectionFault → Lines → Type 0

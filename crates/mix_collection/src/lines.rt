@@ -3,7 +3,7 @@ ghost use Rattle.std.specs.Prelude.{◌≡◌, ◌<◌, true, IfOk, IfSome, IsTr
 ghost use Rattle.std.specs.List.{list_all};
 ghost use Rattle.mix_base.specs.Names.{is_name};
 ghost use Rattle.mix_base.specs.Rates.{is_rate};
-ghost use Rattle.mix_model.specs.Collections.{is_secret};
+ghost use Rattle.mix_model.specs.Fitting.{is_secret};
 ghost use Rattle.mix_model.specs.Values.{is_canvas, is_format};
 ghost use Rattle.mix_collection.specs.Collections.{canvas_in, rate_in, record_in, secret_in, name_in};
 ghost use Rattle.mix_collection.specs.Collections.{two_items, only_item, picture_format, record_from};

@@ -1,6 +1,6 @@
 //! The login of a collection.
 ghost use Rattle.std.specs.Prelude.{◌≡◌, ◌≢◌, ◌≤◌, ◌<◌, Err, IfOk, IsTrue};
-ghost use Rattle.mix_model.specs.Collections.{is_secret};
+ghost use Rattle.mix_model.specs.Fitting.{is_secret};
 ghost use Rattle.mix_outside.specs.Faults.{Rose};
 ghost use Rattle.mix_collection.specs.Read.{LogsIn};
 ghost use Rattle.mix_collection.specs.Within.{lines_left};

@@ -1,13 +1,12 @@
 //! A whole collection.
 ghost use Rattle.std.specs.Prelude.{◌≡◌, ◌≢◌, ◌≤◌, ◌<◌, [], All, IfOk, IsTrue, Err};
 ghost use Rattle.mix_base.specs.Names.{is_name};
-ghost use Rattle.mix_model.specs.Collections.{is_secret};
+ghost use Rattle.mix_model.specs.Fitting.{Fits, IsFitting, is_secret};
 ghost use Rattle.mix_outside.specs.Faults.{Rose};
 ghost use Rattle.mix_outside.specs.Lines.{Lines};
 ghost use Rattle.mix_collection.specs.Collections.{collection_read, collection_from};
-ghost use Rattle.mix_collection.specs.Fitting.{Fits, IsFitting, SetsNoChannel};
 ghost use Rattle.mix_collection.specs.Read.{Reads, Collects, CollectsBehind};
-ghost use Rattle.mix_collection.specs.Read.{IsHeadFitting, with_rest};
+ghost use Rattle.mix_collection.specs.Read.{IsHeadFitting, SetsNoChannel, with_rest};
 ghost use Rattle.mix_collection.specs.Within.{lines_left};
 
 use crate::collection_fault::CollectionFault;

@@ -1,12 +1,12 @@
 //! What a collection opens with, and the program's scene.
 ghost use Rattle.std.specs.Prelude.{◌≡◌, ◌≢◌, ◌≤◌, ◌<◌, [], All, Err, IfOk, IsTrue};
 ghost use Rattle.mix_base.specs.Names.{is_name};
+ghost use Rattle.mix_model.specs.Fitting.{Fits};
 ghost use Rattle.mix_model.specs.Values.{is_canvas};
 ghost use Rattle.mix_outside.specs.Faults.{Rose};
 ghost use Rattle.mix_outside.specs.Lines.{Whole};
-ghost use Rattle.mix_collection.specs.Fitting.{Fits, SetsNoChannel};
 ghost use Rattle.mix_collection.specs.Collections.{last_in, name_in};
-ghost use Rattle.mix_collection.specs.Read.{Pushes, Registers, Ends};
+ghost use Rattle.mix_collection.specs.Read.{Pushes, Registers, Ends, SetsNoChannel};
 ghost use Rattle.mix_collection.specs.Within.{lines_left};
 
 use crate::collection_fault::CollectionFault;
@@ -18,7 +18,7 @@ use mix_model::{Line, LineList};
 use mix_outside::Source;
 use std::alloc::Global;
 
-/// The scenes, the inputs and the items in their order, and the name of the program's scene.
+/// The lines of sources and items in their order, and the name of the program's scene.
 #[derive(Drop)]
 pub struct Registry {
     pub lines: LineList,

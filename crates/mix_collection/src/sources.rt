@@ -1,22 +1,21 @@
-//! What the lines of scenes, inputs and items say.
-ghost use Rattle.std.specs.Prelude.{◌≡◌, IfOk, IfSome, IsTrue, option_and_then, option_map};
-ghost use Rattle.mix_base.specs.Json.{as_obj};
+//! What the lines of scenes and inputs say, and any line of a source.
+ghost use Rattle.std.specs.Prelude.{◌≡◌, IfOk, IfSome, IsTrue, option_and_then};
+ghost use Rattle.mix_model.specs.Fitting.{Fits};
 ghost use Rattle.mix_model.specs.Rows.{is_input};
 ghost use Rattle.mix_model.specs.Values.{is_canvas, are_settings};
-ghost use Rattle.mix_collection.specs.Fitting.{Fits, SetsNoChannel};
 ghost use Rattle.mix_collection.specs.Collections.{three_items, kind_from, settings_from};
-ghost use Rattle.mix_collection.specs.Collections.{input_from, item_from, where_it, is_bare};
-ghost use Rattle.mix_collection.specs.Collections.{scene_in, input_in, item_in, line_in};
+ghost use Rattle.mix_collection.specs.Collections.{input_from, scene_in, input_in, line_in};
+ghost use Rattle.mix_collection.specs.Read.{SetsNoChannel};
 
 use crate::fields::{list_behind, object_in, text_in};
+use crate::items::{group_in, item_in};
 use crate::lines::{name_from, name_in};
-use crate::place::new_place;
 use mix_base::{Json, JsonObj, NoMemory};
-use mix_model::{Blend, Kind, Line, Settings};
+use mix_model::{Kind, Line, Settings};
 use mix_sources::{SettingFault, check_settings, kind_of};
 use std::alloc::Global;
 
-#[tactic(auto, unfolding(crate::specs::Collections::scene_in, mix_model::specs::Collections::line_fits))]
+#[tactic(auto, unfolding(crate::specs::Collections::scene_in, mix_model::specs::Fitting::line_fits))]
 fn scene_in(alloc: Global, line: &[u8]) -> Result<Option<Line>, NoMemory>
     ensures value { IfOk result (λ scene. scene ≡ scene_in line.now) }
     ensures fits { IfOk result (λ scene. IfSome scene Fits) }
@@ -129,74 +128,8 @@ fn input_in(alloc: Global, canvas: (u32, u32), line: &[u8]) -> Result<Option<Lin
     }
 }
 
-/// An object without a key.
-fn bare_in(value: &Json) -> Option<&JsonObj>
-    ensures value { option_map (λ object. object.now) result
-        ≡ option_and_then (where_it is_bare) (as_obj value.now) }
-{
-    let object = object_in(value)?;
-    if object.len() == 0 {
-        Some(object)
-    } else {
-        None
-    }
-}
-
-/// An item: whose it is, what it shows, and no options.
-fn item_of(parent: &Json, child: &Json, options: &Json) -> Option<Line>
-    ensures value { result ≡ item_from (parent.now, child.now, options.now) }
-    ensures fits { IfSome result Fits }
-    ensures unset { IfSome result SetsNoChannel }
-{
-    let parent = name_from(parent)?;
-    let Some(child) = name_from(child) else {
-        drop(parent);
-        return None;
-    };
-    let Some(_) = bare_in(options) else {
-        drop(parent);
-        drop(child);
-        return None;
-    };
-    Some(Line::Item {
-        parent,
-        child,
-        enabled: true,
-        locked: false,
-        place: new_place(),
-        blend: Blend::Normal,
-    })
-}
-
-fn item_from(items: &[Json]) -> Option<Line>
-    ensures value { result ≡ option_and_then item_from (three_items items.now) }
-    ensures fits { IfSome result Fits }
-    ensures unset { IfSome result SetsNoChannel }
-{
-    match items {
-        [parent, child, options] => item_of(parent, child, options),
-        _ => None,
-    }
-}
-
-#[tactic(auto, unfolding(crate::specs::Collections::item_in))]
-fn item_in(alloc: Global, line: &[u8]) -> Result<Option<Line>, NoMemory>
-    ensures value { IfOk result (λ item. item ≡ item_in line.now) }
-    ensures fits { IfOk result (λ item. IfSome item Fits) }
-    ensures unset { IfOk result (λ item. IfSome item SetsNoChannel) }
-{
-    match list_behind(alloc, b"item", line)? {
-        Some(items) => {
-            let item = item_from(items.as_slice());
-            drop(items);
-            Ok(item)
-        }
-        None => Ok(None),
-    }
-}
-
 /// What a line says that stands between the head and the program's line: a scene, an input whose
-/// settings are as large as the canvas where nothing else is said, or an item.
+/// settings are as large as the canvas where nothing else is said, a group, or an item.
 #[tactic(auto, unfolding(crate::specs::Collections::line_in))]
 pub fn line_in(alloc: Global, canvas: (u32, u32), line: &[u8]) -> Result<Option<Line>, NoMemory>
     requires canvas { IsTrue (is_canvas canvas) }
@@ -209,6 +142,9 @@ pub fn line_in(alloc: Global, canvas: (u32, u32), line: &[u8]) -> Result<Option<
     }
     if let Some(input) = input_in(alloc, canvas, line)? {
         return Ok(Some(input));
+    }
+    if let Some(group) = group_in(alloc, line)? {
+        return Ok(Some(group));
     }
     item_in(alloc, line)
 }

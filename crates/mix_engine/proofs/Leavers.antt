@@ -1,13 +1,14 @@
 -- A connection that goes: what it held and watched is let go, and the others keep theirs.
 use Rattle.std.proofs.Common.{◌≡◌, ◌∙◌, ℕ, ◌==◌, Bool, true, false, cond, not, ◌||◌, ◌&&◌, List, []}
-use Rattle.std.proofs.Common.{◌∷◌, map, filter, All, Some, refl}
+use Rattle.std.proofs.Common.{◌∷◌, map, filter, All, refl}
 use Rattle.std.proofs.Common.{sym, ap, subst, eq-eqb}
 use Rattle.std.specs.List.{list_all}
 use Rattle.std.proofs.lemmas.Bool.{false_from_ne_true, eqb-true}
 use Rattle.std.proofs.lemmas.List.Elements.{All-cons, All-head, All-tail, All-nil}
-use Rattle.mix_audience.specs.Listeners.{AudienceModel, Listener, is_other, ended, queued}
+use Rattle.mix_audience.specs.Listeners.{AudienceModel, ended, is_other}
 use Rattle.mix_audience.proofs.Lists.{filter_under, map_same}
 use Rattle.mix_events.specs.Sayable.{IsSayableEvent}
+use Rattle.mix_events.specs.Sayings.{IsSayable}
 use Rattle.mix_model.specs.declared.notes.Note.{Note}
 use Rattle.mix_model.specs.declared.notes.Notes.{Notes}
 use Rattle.mix_model.specs.Sets.{has, is_distinct}
@@ -29,7 +30,6 @@ use Rattle.mix_engine.specs.Leaving.{goes, ids_of, is_of, notes_without, others_
 use Rattle.mix_engine.specs.Leaving.{studio_without}
 use Rattle.mix_engine.specs.Mixer.{Mixer, Connection}
 use Rattle.mix_engine.specs.Mixings.{IsMixing, Mixed, mixed_of}
-use Rattle.mix_engine.specs.StepAnswers.{mixed_without}
 use Rattle.mix_engine.proofs.Listening.{queued_none}
 use Rattle.mix_engine.proofs.Shapes.{IsFit, LeftBy, parts_left}
 
@@ -156,60 +156,25 @@ module _ (s : Mixer) (shape : StateShape s) (conn : ℕ) where
     attends = refl;
     deaf = tt;
     sayable = All-nil IsSayableEvent;
+    said = All-nil IsSayable;
     holds = holds_left;
     watches = watches_left;
     holds_open = others_open conn s.conns s.notes.holds shape.holds_open;
     watches_open = others_open conn s.conns s.notes.watches shape.watches_open;
   }
 
-  -- before it is gone, what it held and watched is let go
-  pub without_shape : StudioShape (studio_without conn s.notes s.studio) → StateShape (record s {
-    studio = studio_without conn s.notes s.studio;
-    notes = notes_without conn s.notes;
-  })
-  without_shape studio = record {
-    studio = studio;
-    conn_ids = shape.conn_ids;
-    few_conns = shape.few_conns;
-    conns = shape.conns;
-    holds_noted = holds_left;
-    watches_noted = watches_left;
-    holds_open = all_filter (is_noted (conn_numbers s.conns)) (λ n. not (is_of conn n)) s.notes.holds
-        shape.holds_open;
-    watches_open = all_filter (is_noted (conn_numbers s.conns)) (λ n. not (is_of conn n))
-        s.notes.watches shape.watches_open;
-  }
-
--- the parts, once what it held and watched is let go
-pub without_parts : (studio : StudioState) (notes : Notes) (a : AudienceModel) (n conn : ℕ)
-    (studio' : StudioState) (notes' : Notes) → IsMixing (mixed_of studio notes a n) →
-    StudioShape studio' → studio' ≡ studio_without conn notes studio →
-    notes' ≡ notes_without conn notes → IsMixing (mixed_of studio' notes' a n)
-without_parts studio notes a n conn studio' notes' mixing shape is are = rw (is, are) (record {
-  shape = without_shape (mixed_of studio notes a n).mixer mixing.shape conn
-      (subst StudioShape is shape);
-  conns = refl;
-  listeners = mixing.listeners;
-})
-
--- the parts, once it is let go and then gone
-pub gone_left : {m k : Mixed} → IsMixing m → IsMixing k → (conn : ℕ) (reply : Heading)
-    (xs : List Listener) (a : AudienceModel) → k ≡ mixed_without conn m →
-    actor_of reply ≡ Some conn → a.secret ≡ k.mixer.secret →
-    xs ≡ filter (is_other conn) k.listeners → a.listeners ≡ map (ended (Some conn)) xs →
-    LeftBy m (goes m.mixer conn reply) (mixed_of k.mixer.studio k.mixer.notes a k.mixer.next_conn)
-gone_left {m} {k} mixing kept conn reply xs a seen acts knows others is =
-    let without : IsMixing (mixed_without conn m) = subst IsMixing seen kept in
+-- the parts, once it is gone
+pub gone_left : {m : Mixed} → IsMixing m → (conn : ℕ) (reply : Heading) {studio : StudioState}
+    {notes : Notes} (a : AudienceModel) → StudioShape studio →
+    studio ≡ studio_without conn m.mixer.notes m.mixer.studio →
+    notes ≡ notes_without conn m.mixer.notes → a.secret ≡ m.mixer.secret →
+    a.listeners ≡ map (ended (actor_of reply)) (filter (is_other conn) m.listeners) →
+    LeftBy m (goes m.mixer conn reply) (mixed_of studio notes a m.mixer.next_conn)
+gone_left {m} mixing conn reply a shape studio_is notes_are knows is =
     parts_left mixing (goes m.mixer conn reply)
-    (gone_fit m.mixer mixing.shape conn reply without.shape.studio) a
-    (ap (λ (x : Mixed). x.mixer.studio) seen) (ap (λ (x : Mixed). x.mixer.notes) seen)
-    (ap (λ (x : Mixed). x.mixer.next_conn) seen)
-    (knows ∙ ap (λ (x : Mixed). x.mixer.secret) seen)
-    (is ∙ ap (map (ended (Some conn))) (others
-    ∙ ap (λ (x : Mixed). filter (is_other conn) x.listeners) seen
-    ∙ sym (queued_none (Some conn) (filter (is_other conn) m.listeners)))
-    ∙ ap (λ actor. map (ended actor) (map (queued actor []) (filter (is_other conn) m.listeners)))
-    (sym acts))
+    (gone_fit m.mixer mixing.shape conn reply (subst StudioShape studio_is shape)) a studio_is
+    notes_are refl knows (is ∙ ap (map (ended (actor_of reply)))
+    (sym (queued_none (actor_of reply) (filter (is_other conn) m.listeners))))
 
 -- ---- an edit that lets go leaves channels, frames in flight and the clock
 

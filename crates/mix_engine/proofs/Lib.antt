@@ -16,9 +16,7 @@ pub mod QueueLemmas
 pub mod Growth
 -- what ties an engine to its journal, after one entry more
 pub mod Replays
--- opening a collection
-pub mod OpeningLemmas
--- the engine that a setup opens
+-- the mixer that a collection opens, and the engine over it
 pub mod Openers
 -- a request over the parts that the code keeps
 pub mod AskLemmas

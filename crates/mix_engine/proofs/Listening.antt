@@ -21,7 +21,6 @@ use Rattle.mix_model.specs.declared.change.Change.{Change}
 use Rattle.mix_model.specs.declared.change.Change.TheVariants.{Active, Showing}
 use Rattle.mix_model.specs.declared.event.Event.{Event}
 use Rattle.mix_model.specs.declared.event.Event.TheVariants as event
-use Rattle.mix_events.specs.declared.said.Said.{Said}
 use Rattle.mix_events.specs.declared.said.Said.TheVariants.{Event as OfEvent}
 use Rattle.mix_model.proofs.SetLemmas.{and_first, and_second}
 use Rattle.mix_model.specs.Settle.{told_changes}
@@ -102,28 +101,29 @@ masked_conns : (conn mask : ℕ) (ls : List Listener) →
 masked_conns conn mask [] = refl
 masked_conns conn mask (l ∷ ls) = rw (masked_conn conn mask l, masked_conns conn mask ls) refl
 
--- so far no outcome makes batches pend
-abbrev pub IsBatchless : Attendance → Type 0
-IsBatchless (conns.Pends conn batches) = ⊥
-IsBatchless _ = Unit {0}
+-- whoever names a mask names a deaf one, and so far no outcome makes batches pend
+abbrev pub IsDeafTo : Attendance → Type 0
+IsDeafTo (conns.Identifies conn mask) = is_deaf mask ≡ true
+IsDeafTo (conns.Pends conn batches) = ⊥
+IsDeafTo _ = Unit {0}
 
 -- who comes, goes, or is identified
-attends : (a : Attendance) (ls : List Listener) → IsBatchless a →
+attends : (a : Attendance) (ls : List Listener) → IsDeafTo a →
     map conn_of (attended a ls) ≡ attending a (map conn_of ls)
-attends conns.Same ls none = refl
-attends (conns.Joins conn challenge) ls none =
+attends conns.Same ls deaf = refl
+attends (conns.Joins conn challenge) ls deaf =
     map-append conn_of ls (new_listener conn challenge ∷ [])
-attends (conns.Identifies conn mask) ls none = masked_conns conn mask ls
-attends (conns.Leaves conn) ls none =
+attends (conns.Identifies conn mask) ls deaf = masked_conns conn mask ls
+attends (conns.Leaves conn) ls deaf =
     sym (filter_under (λ c. not (is_conn conn c)) (is_other conn) conn_of (λ l. refl) ls)
-attends (conns.Pends conn batches) ls none = absurd none
+attends (conns.Pends conn batches) ls deaf = absurd deaf
 
 -- what an outcome leaves of the open connections is what the step leaves of those of the state
-pub listens : (s : Mixer) (o : Outcome) (ls : List Listener) → IsBatchless o.attendance →
+pub listens : (s : Mixer) (o : Outcome) (ls : List Listener) → IsDeafTo o.attendance →
     map conn_of (listening s o ls)
     ≡ map (rested (actor_of o.heading) (told_of s o)) (attending o.attendance (map conn_of ls))
-listens s o ls none = rests_all (actor_of o.heading) (told_of s o) (attended o.attendance ls)
-    ∙ ap (map (rested (actor_of o.heading) (told_of s o))) (attends o.attendance ls none)
+listens s o ls deaf = rests_all (actor_of o.heading) (told_of s o) (attended o.attendance ls)
+    ∙ ap (map (rested (actor_of o.heading) (told_of s o))) (attends o.attendance ls deaf)
 
 -- ---- events of activity
 
@@ -222,11 +222,6 @@ ended_one actor l is = elim (is_but actor l.number) as (λ b. IsListener (ended_
   | false ↦ record { deaf = is.deaf; sayable = is.sayable }
 ]
 
-ended_all : (actor : Option ℕ) (ls : List Listener) → All IsListener ls →
-    All IsListener (map (ended actor) ls)
-ended_all actor ls all = All-map IsListener (ended actor) ls
-    (λ k d within. ended_one actor (get_or ls k d) (all k d within))
-
 taken_sayable : (l : Listener) (events : List Event) → All IsSayableEvent events →
     All IsSayableEvent (taken_of l events)
 taken_sayable l events all = All-filter (audience.takes l.mask l.cut) IsSayableEvent events all
@@ -243,10 +238,14 @@ queued_sayable actor events l all is = elim (is_but actor l.number)
       }
     ]
 
-queued_all : (actor : Option ℕ) (events : List Event) (ls : List Listener) →
-    All IsSayableEvent events → All IsListener ls → All IsListener (map (queued actor events) ls)
-queued_all actor events ls sayable all = All-map IsListener (queued actor events) ls
-    (λ k d within. queued_sayable actor events (get_or ls k d) sayable (all k d within))
+ended_all : (actor : Option ℕ) (events : List Event) (ls : List Listener) →
+    All IsSayableEvent events → All IsListener ls →
+    All IsListener (map (ended actor) (map (queued actor events) ls))
+ended_all actor events ls sayable all = All-map IsListener (ended actor)
+    (map (queued actor events) ls)
+    (All-map (λ l. IsListener (ended actor l)) (queued actor events) ls (λ k d within.
+    ended_one actor (queued actor events (get_or ls k d))
+    (queued_sayable actor events (get_or ls k d) sayable (all k d within))))
 
 masked_one : (conn mask : ℕ) (l : Listener) → is_deaf mask ≡ true → IsListener l →
     IsListener (with_mask conn mask l)
@@ -255,11 +254,6 @@ masked_one conn mask l deaf is = elim (is_listener conn l)
       | true ↦ record { deaf = deaf; sayable = is.sayable }
       | false ↦ is
     ]
-
--- whoever names a mask names a deaf one
-abbrev pub IsDeafTo : Attendance → Type 0
-IsDeafTo (conns.Identifies conn mask) = is_deaf mask ≡ true
-IsDeafTo _ = Unit {0}
 
 pub attended_all : (a : Attendance) (ls : List Listener) → IsDeafTo a → All IsListener ls →
     All IsListener (attended a ls)
@@ -283,49 +277,22 @@ told_heard s o ls deaf all = ap (map (ended (actor_of o.heading)))
 pub listening_all : (s : Mixer) (o : Outcome) (ls : List Listener) → IsDeafTo o.attendance →
     All IsSayableEvent o.events → All IsListener ls → All IsListener (listening s o ls)
 listening_all s o ls deaf sayable all = subst (All IsListener) (sym (told_heard s o ls deaf all))
-    (ended_all (actor_of o.heading)
-    (map (queued (actor_of o.heading) o.events) (attended o.attendance ls))
-    (queued_all (actor_of o.heading) o.events (attended o.attendance ls) sayable
-    (attended_all o.attendance ls deaf all)))
+    (ended_all (actor_of o.heading) o.events (attended o.attendance ls) sayable
+    (attended_all o.attendance ls deaf all))
 
 -- ---- what is told can be said
 
-events_sayable : (events : List Event) → All IsSayableEvent events →
-    All IsSayable (map OfEvent events)
-events_sayable events all = All-map IsSayable OfEvent events all
-
-waiting_sayable : (conn : ℕ) (ls : List Listener) → All IsListener ls →
-    All IsSayableEvent (waiting_for conn ls)
-waiting_sayable conn [] all = All-nil IsSayableEvent
-waiting_sayable conn (l ∷ ls) all = elim (is_listener conn l)
-    as (λ b. All IsSayableEvent
-    (option_map_or (λ (m : Listener). m.waiting) (cond b (Some l) (listener_at conn ls)) [])) [
-      | true ↦ (All-head IsListener l ls all).sayable
-      | false ↦ waiting_sayable conn ls (All-tail IsListener l ls all)
+-- what waits for a connection can be said, and so can what it takes
+pub heard_sayable : (conn : ℕ) (ls : List Listener) (events : List Event) → All IsListener ls →
+    All IsSayableEvent events →
+    All IsSayable (map OfEvent (waiting_for conn ls ++ taken_by conn ls events))
+heard_sayable conn [] events all sayable = All-nil IsSayable
+heard_sayable conn (l ∷ ls) events all sayable = elim (is_listener conn l)
+    as (λ b. let found : Option Listener = cond b (Some l) (listener_at conn ls) in
+    All IsSayable (map OfEvent (option_map_or (λ (k : Listener). k.waiting) found []
+    ++ option_map_or (λ (k : Listener). taken_of k events) found []))) [
+      | true ↦ All-map IsSayable OfEvent (l.waiting ++ taken_of l events)
+          (All-append IsSayableEvent l.waiting (taken_of l events)
+          (All-head IsListener l ls all).sayable (taken_sayable l events sayable))
+      | false ↦ heard_sayable conn ls events (All-tail IsListener l ls all) sayable
     ]
-
-taken_or_sayable : (found : Option Listener) (events : List Event) → All IsSayableEvent events →
-    All IsSayableEvent (option_map_or (λ (l : Listener). taken_of l events) found [])
-taken_or_sayable None events all = All-nil IsSayableEvent
-taken_or_sayable (Some l) events all = taken_sayable l events all
-
--- what waited for a connection
-pub waited_sayable : (conn : ℕ) (ls : List Listener) (items : List Said) → All IsListener ls →
-    items ≡ map OfEvent (waiting_for conn ls) → All IsSayable items
-waited_sayable conn ls items all is = subst (All IsSayable) (sym is)
-    (events_sayable (waiting_for conn ls) (waiting_sayable conn ls all))
-
--- the events between
-pub taken_too : (conn : ℕ) (ls : List Listener) (events : List Event) (before items : List Said) →
-    All IsSayableEvent events → All IsSayable before →
-    items ≡ before ++ map OfEvent (taken_by conn ls events) → All IsSayable items
-taken_too conn ls events before items sayable all is = subst (All IsSayable) (sym is)
-    (All-append IsSayable before (map OfEvent (taken_by conn ls events)) all
-    (events_sayable (taken_by conn ls events)
-    (taken_or_sayable (listener_at conn ls) events sayable)))
-
--- and what is said after them
-pub then_sayable : (before items : List Said) (said : Said) → All IsSayable before →
-    IsSayable said → items ≡ before ++ said ∷ [] → All IsSayable items
-then_sayable before items said all last is =
-    subst (All IsSayable) (sym is) (All-push IsSayable before said all last)

@@ -16,7 +16,7 @@ use Rattle.mix_engine.specs.declared.heading.Heading.{Heading}
 use Rattle.mix_engine.specs.declared.heading.Heading.TheVariants as heading
 use Rattle.mix_engine.specs.Answers.{told_by}
 use Rattle.mix_engine.specs.Connections as att
-use Rattle.mix_engine.specs.Connections.{Attendance, conn_at}
+use Rattle.mix_engine.specs.Connections.{Attendance}
 use Rattle.mix_engine.specs.Headings.{actor_of}
 use Rattle.mix_engine.specs.Mixer.{Connection}
 use Rattle.mix_engine.specs.Mixings.{Mixed, conn_of, attended, listening}
@@ -26,7 +26,8 @@ use Rattle.mix_engine.specs.Replayed.{IsQueued}
 use Rattle.mix_engine.specs.StepAnswers.{speech, told_to}
 use Rattle.mix_engine.specs.Told.{Happened, happened, taken, takes, is_entry_of, since, told_at}
 use Rattle.mix_engine.proofs.Actors.{IsOfActor}
-use Rattle.mix_engine.proofs.Listening.{ended_number, found_conn, queued_number}
+use Rattle.mix_engine.proofs.Listening.{ended_if, ended_number, found_conn, queued_if}
+use Rattle.mix_engine.proofs.Listening.{queued_number}
 
 queue_on : (number : ℕ) (q : List Event) (hs : List Happened) (h : Happened) →
     queue_from number q (hs ++ h ∷ []) ≡ queue_after number (queue_from number q hs) h
@@ -89,69 +90,42 @@ told_is number before h = rw (
   queue_since number before,
 ) refl
 
--- what waits after a change of each listener that leaves the numbers as they are
-waits_one : (number : ℕ) (f : Listener → Listener) (waits : Listener → List Event) (l : Listener)
-    (b : Bool) (here there : Option Listener) → (b ≡ true → (f l).waiting ≡ waits l) →
-    option_map_or (λ (k : Listener). k.waiting) there [] ≡ option_map_or waits here [] →
-    option_map_or (λ (k : Listener). k.waiting) (cond b (Some (f l)) there) []
-    ≡ option_map_or waits (cond b (Some l) here) []
-waits_one number f waits l true here there is more = is refl
-waits_one number f waits l false here there is more = more
+-- ---- what waits after an action
 
-waits_mapped : (number : ℕ) (f : Listener → Listener) (waits : Listener → List Event) →
-    ((l : Listener) → (f l).number ≡ l.number) →
-    ((l : Listener) → l.number ≡ number → (f l).waiting ≡ waits l) → (ls : List Listener) →
-    waiting_for number (map f ls) ≡ option_map_or waits (listener_at number ls) []
-waits_mapped number f waits same is [] = refl
-waits_mapped number f waits same is (l ∷ ls) =
-    ap (λ n. option_map_or (λ (k : Listener). k.waiting)
-    (cond (n == number) (Some (f l)) (listener_at number (map f ls))) []) (same l)
-    ∙ waits_one number f waits l (is_listener number l) (listener_at number ls)
-    (listener_at number (map f ls)) (λ e. is l (eqb-true l.number number e))
-    (waits_mapped number f waits same is ls)
+-- for a connection: nothing where it acted, and else what waited, and then what it takes
+waits_one : (actor : Option ℕ) (events : List Event) (l : Listener) →
+    (ended actor (queued actor events l)).waiting
+    ≡ cond (is_but actor l.number) [] (l.waiting ++ taken_of l events)
+waits_one actor events l =
+    ap (λ n. let k : Listener = ended_if (is_but actor n) (queued actor events l) in k.waiting)
+    (queued_number actor events l)
+    ∙ (elim (is_but actor l.number)
+    as (λ b. (let k : Listener = ended_if b (queued_if b events l) in k.waiting)
+    ≡ cond b [] (l.waiting ++ taken_of l events)) [ true ↦ refl | false ↦ refl ])
 
--- whether a number is left out, told of a listener
-but_at : (actor : Option ℕ) (number : ℕ) (b : Bool) (l : Listener) → is_but actor number ≡ b →
-    l.number ≡ number → is_but actor l.number ≡ b
-but_at actor number b l is same = ap (is_but actor) same ∙ is
-
-abbrev nothing : Listener → List Event
-nothing l = []
-
-none_waits : (listener : Option Listener) → option_map_or nothing listener [] ≡ []
-none_waits None = refl
-none_waits (Some l) = refl
-
--- nothing waits for the one that acted
-actor_waits : (actor : Option ℕ) (number : ℕ) (ls : List Listener) →
-    is_but actor number ≡ true → waiting_for number (map (ended actor) ls) ≡ []
-actor_waits actor number ls is =
-    waits_mapped number (ended actor) nothing (ended_number actor)
-    (λ l same. rw (but_at actor number true l is same) refl) ls ∙ none_waits (listener_at number ls)
-
--- what waits for another stays
-other_waits : (actor : Option ℕ) (number : ℕ) (ls : List Listener) →
-    is_but actor number ≡ false → waiting_for number (map (ended actor) ls) ≡ waiting_for number ls
-other_waits actor number ls is =
-    waits_mapped number (ended actor) (λ l. l.waiting) (ended_number actor)
-    (λ l same. rw (but_at actor number false l is same) refl) ls
-
-more_waits : (events : List Event) (listener : Option Listener) →
-    option_map_or (λ (l : Listener). l.waiting ++ taken_of l events) listener []
-    ≡ option_map_or (λ (l : Listener). l.waiting) listener []
-    ++ option_map_or (λ (l : Listener). taken_of l events) listener []
-more_waits events None = refl
-more_waits events (Some l) = refl
-
--- and then come the events that it takes
-other_takes : (actor : Option ℕ) (events : List Event) (number : ℕ) (ls : List Listener) →
-    is_but actor number ≡ false → waiting_for number (map (queued actor events) ls)
-    ≡ waiting_for number ls ++ taken_by number ls events
-other_takes actor events number ls is =
-    waits_mapped number (queued actor events) (λ l. l.waiting ++ taken_of l events)
-    (queued_number actor events)
-    (λ l same. rw (but_at actor number false l is same) refl) ls
-    ∙ more_waits events (listener_at number ls)
+waits_at : (actor : Option ℕ) (events : List Event) (number : ℕ) (ls : List Listener) →
+    waiting_for number (map (ended actor) (map (queued actor events) ls))
+    ≡ cond (is_but actor number) [] (waiting_for number ls ++ taken_by number ls events)
+waits_at actor events number [] = elim (is_but actor number)
+    as (λ b. let none : List Event = [] in none ≡ cond b none none) [ true ↦ refl | false ↦ refl ]
+waits_at actor events number (l ∷ ls) =
+    ap (λ n. option_map_or (λ (k : Listener). k.waiting) (cond (n == number)
+    (Some (ended actor (queued actor events l)))
+    (listener_at number (map (ended actor) (map (queued actor events) ls)))) [])
+    (ended_number actor (queued actor events l) ∙ queued_number actor events l)
+    ∙ (elim (is_listener number l) as (λ b. is_listener number l ≡ b →
+    option_map_or (λ (k : Listener). k.waiting) (cond b
+    (Some (ended actor (queued actor events l)))
+    (listener_at number (map (ended actor) (map (queued actor events) ls)))) []
+    ≡ cond (is_but actor number) []
+    (option_map_or (λ (k : Listener). k.waiting) (cond b (Some l) (listener_at number ls)) []
+    ++ option_map_or (λ (k : Listener). taken_of k events)
+    (cond b (Some l) (listener_at number ls)) [])) [
+      | true ↦ λ here. waits_one actor events l
+          ∙ ap (λ n. cond (is_but actor n) [] (l.waiting ++ taken_of l events))
+          (eqb-true l.number number here)
+      | false ↦ λ apart. waits_at actor events number ls
+    ]) refl
 
 -- a connection whose entry it is, is another than one whose entry it isn't
 differs : (conn number : ℕ) (actor : Option ℕ) → is_but actor conn ≡ true →
@@ -168,34 +142,32 @@ joins_stay number l (k ∷ ls) other = elim (is_listener number k)
     ≡ cond b (Some k) (listener_at number ls))
     [ true ↦ refl | false ↦ joins_stay number l ls other ]
 
-masked_one : (number mask : ℕ) (l : Listener) (b : Bool) (here there : Option Listener) →
-    here ≡ there → (b ≡ true → is_listener number l ≡ false) →
-    (let k : Listener = cond b (record l { mask = Some mask }) l in
-    cond (is_listener number k) (Some k) here) ≡ cond (is_listener number l) (Some l) there
-masked_one number mask l true here there same other = rw (other refl) same
-masked_one number mask l false here there same other =
-    ap (cond (is_listener number l) (Some l)) same
-
 masks_stay : (number conn mask : ℕ) (ls : List Listener) → (conn == number) ≡ false →
     listener_at number (map (with_mask conn mask) ls) ≡ listener_at number ls
 masks_stay number conn mask [] other = refl
-masks_stay number conn mask (l ∷ ls) other =
-    masked_one number mask l (is_listener conn l) _ _ (masks_stay number conn mask ls other)
-    (λ e. ap (λ k. k == number) (eqb-true l.number conn e) ∙ other)
-
-left_one : (number : ℕ) (l : Listener) (ls : List Listener) (b : Bool) (there : Option Listener) →
-    listener_at number ls ≡ there → (b ≡ true → is_listener number l ≡ false) →
-    listener_at number (cond (not b) (l ∷ ls) ls) ≡ cond (is_listener number l) (Some l) there
-left_one number l ls true there same other = rw (other refl) same
-left_one number l ls false there same other = ap (cond (is_listener number l) (Some l)) same
+masks_stay number conn mask (l ∷ ls) other = (elim (is_listener conn l)
+    as (λ b. is_listener conn l ≡ b →
+    (let k : Listener = cond b (record l { mask = Some mask }) l in cond (is_listener number k)
+    (Some k) (listener_at number (map (with_mask conn mask) ls)))
+    ≡ cond (is_listener number l) (Some l) (listener_at number ls)) [
+      | true ↦ λ here. rw (ap (λ k. k == number) (eqb-true l.number conn here) ∙ other)
+          (masks_stay number conn mask ls other)
+      | false ↦ λ apart. ap (cond (is_listener number l) (Some l))
+          (masks_stay number conn mask ls other)
+    ]) refl
 
 leaves_stay : (number conn : ℕ) (ls : List Listener) → (conn == number) ≡ false →
     listener_at number (filter (is_other conn) ls) ≡ listener_at number ls
 leaves_stay number conn [] other = refl
-leaves_stay number conn (l ∷ ls) other =
-    left_one number l (filter (is_other conn) ls) (is_listener conn l) _
-    (leaves_stay number conn ls other)
-    (λ e. ap (λ k. k == number) (eqb-true l.number conn e) ∙ other)
+leaves_stay number conn (l ∷ ls) other = (elim (is_listener conn l)
+    as (λ b. is_listener conn l ≡ b → listener_at number
+    (cond (not b) (l ∷ filter (is_other conn) ls) (filter (is_other conn) ls))
+    ≡ cond (is_listener number l) (Some l) (listener_at number ls)) [
+      | true ↦ λ here. rw (ap (λ k. k == number) (eqb-true l.number conn here) ∙ other)
+          (leaves_stay number conn ls other)
+      | false ↦ λ apart. ap (cond (is_listener number l) (Some l))
+          (leaves_stay number conn ls other)
+    ]) refl
 
 -- who comes, goes, or is identified changes nobody else
 others_stay : (number : ℕ) (actor : Option ℕ) (attendance : Attendance) (ls : List Listener) →
@@ -223,20 +195,22 @@ taken_same number m o conns = rw (conns, found_conn number m.listeners)
 
 -- what waits after an outcome: nothing for the one that acted, and for another what waited, and then
 -- what it takes
-waits_after : (number : ℕ) (b : Bool) (m : Mixed) (o : Outcome) →
-    IsOfActor o.attendance (actor_of o.heading) → is_but (actor_of o.heading) number ≡ b →
+waits_after : (number : ℕ) (m : Mixed) (o : Outcome) → IsOfActor o.attendance (actor_of o.heading) →
     waiting_for number (listening m.mixer o m.listeners)
-    ≡ cond b [] (waiting_for number m.listeners
+    ≡ cond (is_but (actor_of o.heading) number) [] (waiting_for number m.listeners
     ++ taken_by number m.listeners (told_of m.mixer o))
-waits_after number true m o actor is = actor_waits (actor_of o.heading) number
-    (map (queued (actor_of o.heading) (told_of m.mixer o)) (attended o.attendance m.listeners)) is
-waits_after number false m o actor is = other_waits (actor_of o.heading) number
-    (map (queued (actor_of o.heading) (told_of m.mixer o)) (attended o.attendance m.listeners)) is
-    ∙ other_takes (actor_of o.heading) (told_of m.mixer o) number
-    (attended o.attendance m.listeners) is
-    ∙ ap (λ l. option_map_or (λ (k : Listener). k.waiting) l []
-    ++ option_map_or (λ (k : Listener). taken_of k (told_of m.mixer o)) l [])
-    (others_stay number (actor_of o.heading) o.attendance m.listeners actor is)
+waits_after number m o actor =
+    waits_at (actor_of o.heading) (told_of m.mixer o) number (attended o.attendance m.listeners)
+    ∙ (elim (is_but (actor_of o.heading) number) as (λ b. is_but (actor_of o.heading) number ≡ b →
+    cond b [] (waiting_for number (attended o.attendance m.listeners)
+    ++ taken_by number (attended o.attendance m.listeners) (told_of m.mixer o))
+    ≡ cond b [] (waiting_for number m.listeners
+    ++ taken_by number m.listeners (told_of m.mixer o))) [
+      | true ↦ λ here. refl
+      | false ↦ λ other. ap (λ found. option_map_or (λ (k : Listener). k.waiting) found []
+          ++ option_map_or (λ (k : Listener). taken_of k (told_of m.mixer o)) found [])
+          (others_stay number (actor_of o.heading) o.attendance m.listeners actor other)
+    ]) refl
 
 -- what waits for each connection stays its queue
 pub queued_more : (m : Mixed) (o : Outcome) (hs : List Happened) →
@@ -244,8 +218,7 @@ pub queued_more : (m : Mixed) (o : Outcome) (hs : List Happened) →
     IsQueued hs m.listeners →
     IsQueued (hs ++ happened m.mixer o ∷ []) (listening m.mixer o m.listeners)
 queued_more m o hs conns actor waits number = rw (
-  waits_after number
-      (is_but (actor_of o.heading) number) m o actor refl,
+  waits_after number m o actor,
   waits number,
   ← taken_same number m o conns,
   queue_more number hs (happened m.mixer o),

@@ -1,19 +1,17 @@
 -- What ties an engine to its journal, after one entry more.
 use Rattle.std.proofs.Common.{◌≡◌, ◌∙◌, ℕ, ◌+◌, ◌≤◌, ◌<◌, true, false, IsTrue}
-use Rattle.std.proofs.Common.{List, [], ◌∷◌, ◌++◌, length, refl, sym, ap, subst, arith}
+use Rattle.std.proofs.Common.{List, [], ◌∷◌, ◌++◌, length, refl, sym, ap, arith}
 use Rattle.std.proofs.lemmas.Bool.{ltb-true, leb-true}
 use Rattle.std.proofs.lemmas.List.{length-append, map-append}
 use Rattle.std.proofs.lemmas.List.Sums.{sum_by_push}
-use Rattle.mix_base.specs.declared.limits.Limits.{Limits}
 use Rattle.mix_model.specs.State.{StudioState}
 use Rattle.mix_model.specs.declared.action.Action.{Action}
 use Rattle.mix_model.specs.declared.action.Entry.{Entry}
 use Rattle.mix_events.specs.declared.reply.Answer.{Answer}
-use Rattle.mix_events.specs.declared.said.Said.{Said}
 use Rattle.mix_model.proofs.SetLemmas.{and_first, and_second}
 use Rattle.mix_shape.specs.Refused.{are_limits}
 use Rattle.mix_engine.specs.declared.step_answer.StepAnswer.{StepAnswer}
-use Rattle.mix_engine.specs.Answers.{actions_of, answer_to, answered, due_after, state_after, trace}
+use Rattle.mix_engine.specs.Answers.{actions_of, answer_to, due_after, state_after, trace}
 use Rattle.mix_engine.specs.Answers.{Agrees, Replies}
 use Rattle.mix_engine.specs.Engines.{EngineModel, IsLineOf, has_room, line_bytes}
 use Rattle.mix_engine.specs.Engines.{text_bytes}
@@ -34,13 +32,6 @@ use Rattle.mix_engine.proofs.Shapes.{built_after, left_by}
 
 -- ---- limits
 
--- a history is no longer than that of every mixer
-pub turns_within : (limits : Limits) → IsTrue (are_limits limits) → limits.turns ≤ 16777216
-turns_within limits are = leb-true limits.turns 16777216 (and_second _ _ (and_first _ _ are))
-
-pub bytes_within : (limits : Limits) → IsTrue (are_limits limits) → limits.bytes ≤ 1073741824
-bytes_within limits are = leb-true limits.bytes 1073741824 (and_second _ _ are)
-
 -- where there is room, a line is as long as it was counted, and one more entry fits
 pub room_fits : (e : EngineModel) (action : Action) (line : ℕ) → has_room e action ≡ true →
     IsTrue (are_limits e.limits) → IsLineOf line action →
@@ -50,7 +41,7 @@ room_fits e action line room limits counted =
     let turns : length e.journal < e.limits.turns = ltb-true _ _ (and_first _ _ room) in
     let bytes : text_bytes e.journal + line_bytes action ≤ e.limits.bytes
     = leb-true _ _ (and_second _ _ room) in
-    let few : e.limits.bytes ≤ 1073741824 = bytes_within e.limits limits in
+    let few : e.limits.bytes ≤ 1073741824 = leb-true _ _ (and_second _ _ limits) in
     let same : line ≡ line_bytes action = omega arith in
     (same, omega arith, omega arith)
 
@@ -105,7 +96,8 @@ pub numbers_left : (e : EngineModel) {m : Mixed} {count : ℕ} →
     Replayed e.start e.journal m count → IsTrue (are_limits e.limits) →
     length e.journal ≤ e.limits.turns → NumbersWithin 4294967294 m.mixer
 numbers_left e {m} replayed limits few =
-    let turns : e.limits.turns ≤ 16777216 = turns_within e.limits limits in
+    let turns : e.limits.turns ≤ 16777216 =
+    leb-true _ _ (and_second _ _ (and_first _ _ limits)) in
     numbers_more m.mixer (4096 + length e.journal) 4294967294 (omega arith) replayed.numbers
 
 -- ---- an action that is built
@@ -160,7 +152,8 @@ module _ {start : Mixer} {old new : Mixed} {journal : List Entry} {answer : Step
   -- what is answered agrees with the entry
   pub answers_agree : (a : Answer) → ((found : StudioState) →
       HasShot answer.heading found answer.shot → HasVoices answer.heading found answer.voices →
-      Replies answer.heading found answer.said.items (due_after answer.heading new.mixer) a.reply) → a.stopping ≡ new.mixer.notes.stop →
+      Replies answer.heading found answer.said.items (due_after answer.heading new.mixer) a.reply) →
+      a.stopping ≡ new.mixer.notes.stop →
       a.dying ≡ length new.mixer.studio.graph.dying →
       Agrees a (answer_to start journal e.action)
   answers_agree a reply stopping dying = rw (← replayed.state) (record {

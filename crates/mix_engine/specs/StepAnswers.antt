@@ -19,7 +19,6 @@ use Rattle.mix_engine.specs.declared.step_answer.StepAnswer.{StepAnswer}
 use Rattle.mix_engine.specs.Answers.{Sounds}
 use Rattle.mix_engine.specs.Connections.{conn_at}
 use Rattle.mix_engine.specs.Headings.{is_unbuilt}
-use Rattle.mix_engine.specs.Leaving.{notes_without, studio_without}
 use Rattle.mix_engine.specs.Mixer.{Connection}
 use Rattle.mix_engine.specs.Mixings.{Mixed, mixed_after}
 use Rattle.mix_engine.specs.Outcomes.{Outcome, told_of}
@@ -62,6 +61,13 @@ pub record IsReady (answer : StepAnswer) : Type 0 where
   pub complete : IsComplete answer.heading answer.shot answer.voices
   pub sayable : All IsSayable answer.said.items
 
+-- an answer that says this under a heading, and has neither a shot nor voices
+pub record Says (answer : StepAnswer) (reply : Heading) (items : List Said) : Type 0 where
+  pub heading : answer.heading ≡ reply
+  pub said : answer.said.items ≡ items
+  pub shot : answer.shot ≡ None
+  pub voices : answer.voices ≡ None
+
 -- a heading with which nothing is told, and which no part goes with
 abbrev pub IsUntold : Heading → Type 0
 IsUntold heading.Full = Unit {0}
@@ -91,15 +97,6 @@ pub record IsOpen (m : Mixed) (conn : ℕ) : Type 0 where
   pub one : Listener
   pub found : listener_at conn m.listeners ≡ Some one
   pub uncut : one.cut ≡ false
-
--- what a connection held and watched is let go
-abbrev pub mixed_without : ℕ → Mixed → Mixed
-mixed_without conn m = record m {
-  mixer = record m.mixer {
-    studio = studio_without conn m.mixer.notes m.mixer.studio;
-    notes = notes_without conn m.mixer.notes;
-  };
-}
 
 -- what is said at once is Identified, and a request has an id
 abbrev pub IsPlain : Heard → Type 0

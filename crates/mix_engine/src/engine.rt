@@ -11,7 +11,7 @@ ghost use Rattle.mix_engine.specs.Built.{is_built};
 ghost use Rattle.mix_engine.specs.Heads.{head_of};
 ghost use Rattle.mix_engine.specs.Headings.{is_unbuilt};
 ghost use Rattle.mix_engine.specs.Numbers.{NumbersWithin};
-ghost use Rattle.mix_engine.specs.Openings.{IsFitting};
+ghost use Rattle.mix_model.specs.Fitting.{IsFitting};
 ghost use Rattle.mix_engine.specs.StepAnswers.{HasShot, HasVoices, IsReady};
 
 use crate::laws::requests_are_proper;

@@ -1,10 +1,10 @@
 //! Connections that go, and that are closed.
-ghost use Rattle.std.specs.Prelude.{◌≡◌, is_some, true, OnOk, OnErr};
+ghost use Rattle.std.specs.Prelude.{◌≡◌, is_some, true};
 ghost use Rattle.mix_audience.specs.Listeners.{listener_at};
 ghost use Rattle.mix_engine.specs.Step.{outcome};
-ghost use Rattle.mix_engine.specs.StepAnswers.{Steps, mixed_without};
+ghost use Rattle.mix_engine.specs.StepAnswers.{Steps};
 
-use crate::letting_go::{ids_of, let_go, notes_without};
+use crate::letting_go::let_go_all;
 use crate::step_answer::{saying, silent};
 use crate::{Heading, Mixing, StepAnswer};
 use mix_base::{ConnId, NoMemory};
@@ -33,8 +33,7 @@ impl Mixing {
         ensures steps { Steps result self.old self.new
             (goes self.old.mixer conn (heading.Left conn)) }
     {
-        self.has_shape();
-        self.let_go(alloc, conn)?;
+        let_go_all(alloc, &mut self.studio, &mut self.notes, conn)?;
         self.audience.leave(conn);
         self.audience.end(Some(conn));
         Ok(silent(alloc, Heading::Left { conn }))
@@ -53,30 +52,12 @@ impl Mixing {
             (goes self.old.mixer conn (heading.Closed conn code)) }
     {
         let said = self.audience.waiting(alloc, conn, 0)?;
-        let Ok(()) = self.let_go(alloc, conn) else {
+        let Ok(()) = let_go_all(alloc, &mut self.studio, &mut self.notes, conn) else {
             drop(said);
             return Err(NoMemory);
         };
         self.audience.leave(conn);
         self.audience.end(Some(conn));
         Ok(saying(Heading::Closed { conn, code }, said))
-    }
-
-    /// What the connection holds and watches is let go.
-    fn let_go(&mut self, alloc: Global, conn: ConnId) -> Result<(), NoMemory>
-        ensures ok { OnOk result (self.new ≡ mixed_without conn self.old) }
-        ensures err { OnErr result (self.new ≡ self.old) }
-    {
-        let holds = ids_of(alloc, self.notes.holds.as_slice(), conn)?;
-        let Ok(watches) = ids_of(alloc, self.notes.watches.as_slice(), conn) else {
-            drop(holds);
-            return Err(NoMemory);
-        };
-        self.studio.begin_changes();
-        let_go(&mut self.studio, holds.as_slice(), watches.as_slice());
-        drop(holds);
-        drop(watches);
-        notes_without(alloc, &mut self.notes, conn);
-        Ok(())
     }
 }

@@ -1,10 +1,10 @@
 //! What a connection holds and watches, and letting it go.
-ghost use Rattle.std.specs.Prelude.{◌≡◌, ◌++◌, ◌∷◌, [], not, IfOk, OnOk};
+ghost use Rattle.std.specs.Prelude.{◌≡◌, ◌++◌, ◌∷◌, [], not, IfOk, OnErr, OnOk};
 ghost use Rattle.mix_model.specs.Marks.{marks_of};
 ghost use Rattle.mix_model.specs.WholeShape.{StudioShape};
 ghost use Rattle.mix_requests.specs.Sources.{edited_alone};
 ghost use Rattle.mix_model.specs.Edits.{let_go};
-ghost use Rattle.mix_engine.specs.Leaving.{ids_of, is_of, notes_without, others_of};
+ghost use Rattle.mix_engine.specs.Leaving.{ids_of, is_of, notes_without, others_of, studio_without};
 
 use mix_base::{ConnId, ListOf, NoMemory};
 use mix_model::{Note, NoteList, Notes};
@@ -12,8 +12,37 @@ use mix_studio::Studio;
 use std::alloc::Global;
 use std::mem;
 
+/// What a connection holds and watches is let go, in an action that begins with this. At `Err`
+/// nothing is done.
+pub fn let_go_all(
+    alloc: Global,
+    studio: &mut Studio,
+    notes: &mut Notes,
+    conn: ConnId,
+) -> Result<(), NoMemory>
+    requires shape { StudioShape studio.old.present }
+    ensures ok { OnOk result (studio.new.present
+        ≡ studio_without conn notes.old studio.old.present) }
+    ensures ok_notes { OnOk result (notes.new ≡ notes_without conn notes.old) }
+    ensures err { OnErr result (studio.new ≡ studio.old) }
+    ensures err_notes { OnErr result (notes.new ≡ notes.old) }
+    ensures shape { StudioShape studio.new.present }
+{
+    let holds = ids_of(alloc, notes.holds.as_slice(), conn)?;
+    let Ok(watches) = ids_of(alloc, notes.watches.as_slice(), conn) else {
+        drop(holds);
+        return Err(NoMemory);
+    };
+    studio.begin_changes();
+    let_go(studio, holds.as_slice(), watches.as_slice());
+    drop(holds);
+    drop(watches);
+    notes_without(alloc, notes, conn);
+    Ok(())
+}
+
 /// The ids of the notes of a connection.
-pub fn ids_of(alloc: Global, notes: &[Note], conn: ConnId) -> Result<Vec<u64>, NoMemory>
+fn ids_of(alloc: Global, notes: &[Note], conn: ConnId) -> Result<Vec<u64>, NoMemory>
     ensures value { IfOk result (λ ids. ids.items ≡ ids_of conn notes.now) }
 {
     let mut ids = Vec::new(alloc);
@@ -37,7 +66,7 @@ fn add_id(ids: &mut Vec<u64>, note: &Note, conn: ConnId) -> Result<(), NoMemory>
 }
 
 /// Holds are released and watches dropped, in an action that has just begun.
-pub fn let_go(studio: &mut Studio, holds: &[u64], watches: &[u64])
+fn let_go(studio: &mut Studio, holds: &[u64], watches: &[u64])
     requires begun { studio.old.begun ≡ marks_of studio.old.present.graph }
     requires shape { StudioShape studio.old.present }
     ensures state { studio.new.present
@@ -50,7 +79,7 @@ pub fn let_go(studio: &mut Studio, holds: &[u64], watches: &[u64])
 }
 
 /// The notes of a connection go.
-pub fn notes_without(alloc: Global, notes: &mut Notes, conn: ConnId)
+fn notes_without(alloc: Global, notes: &mut Notes, conn: ConnId)
     ensures value { notes.new ≡ notes_without conn notes.old }
 {
     let holds = mem::replace(&mut notes.holds, ListOf::from_vec(Vec::new(alloc)));

@@ -1,5 +1,6 @@
 //! What one step answers.
-ghost use Rattle.std.specs.Prelude.{◌≡◌, [], None};
+ghost use Rattle.std.specs.Prelude.{[]};
+ghost use Rattle.mix_engine.specs.StepAnswers.{Says};
 
 use crate::Heading;
 use mix_events::Said;
@@ -18,10 +19,7 @@ pub struct StepAnswer {
 
 /// An answer that says nothing.
 pub fn silent(alloc: Global, heading: Heading) -> StepAnswer
-    ensures heading { result.heading ≡ heading }
-    ensures said { result.said.items ≡ [] }
-    ensures shot { result.shot ≡ None }
-    ensures voices { result.voices ≡ None }
+    ensures says { Says result heading [] }
 {
     StepAnswer {
         heading,
@@ -33,10 +31,7 @@ pub fn silent(alloc: Global, heading: Heading) -> StepAnswer
 
 /// An answer that says this.
 pub fn saying(heading: Heading, said: Vec<Said>) -> StepAnswer
-    ensures heading { result.heading ≡ heading }
-    ensures said { result.said.items ≡ said.items }
-    ensures shot { result.shot ≡ None }
-    ensures voices { result.voices ≡ None }
+    ensures says { Says result heading said.items }
 {
     StepAnswer {
         heading,

@@ -44,3 +44,5 @@ pub mod DistinctLemmas
 pub mod SettledShape
 -- edits that keep what holds of the sources
 pub mod EditShape
+-- where every row is named, what refuses a line is what refuses its call
+pub mod CalledLemmas

@@ -26,7 +26,7 @@ use Rattle.mix_model.specs.Studio.{studio_mode_set, scene_previewed, recording_c
 use Rattle.mix_model.specs.Studio.{studio_settled}
 use Rattle.mix_model.specs.Lines.{line_done, line_early, line_late}
 use Rattle.mix_model.specs.Opening.{opening_studio, opening_of, opening_state}
-use Rattle.mix_model.specs.Collections.{line_fits}
+use Rattle.mix_model.specs.Fitting.{line_fits}
 use Rattle.mix_model.specs.Pictures.{picture_at}
 use Rattle.mix_model.specs.Plans.{painted, is_draw, is_shot}
 use Rattle.mix_model.specs.Voices.{voices_in, is_voice}

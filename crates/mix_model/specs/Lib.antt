@@ -20,6 +20,7 @@ pub mod Recordings
 pub mod Studio
 pub mod Lines
 pub mod Opening
+pub mod Fitting
 pub mod Collections
 pub mod Sizes
 pub mod Texts

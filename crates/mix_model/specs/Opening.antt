@@ -39,6 +39,8 @@ opening_studio c g = with_program (opening_program c g) (record {
   recording = no_recording;
 })
 
+-- why the scene of the preview is refused, if it is. Behind all lines, since a collection's value doesn't
+-- keep where its studio line stood; its text names only what stands above that line
 abbrev pub preview_cause : GraphState → Option (List ℕ) → Option GraphFault
 preview_cause g None = None
 preview_cause g (Some name) = named_scene_cause g name

@@ -2,8 +2,9 @@
 ghost use Rattle.std.specs.Prelude.{◌≡◌, ◌≢◌, ◌↔◌, ◌⊎◌, ◌≤◌, ◌<◌, false, true, IsTrue, [], Some, IfSome};
 ghost use Rattle.mix_outside.specs.Faults.{Rose};
 ghost use Rattle.mix_base.specs.Limits.{standard};
+ghost use Rattle.mix_model.specs.Fitting.{IsFitting};
 ghost use Rattle.mix_shape.specs.Refused.{are_limits};
-ghost use Rattle.mix_engine.specs.Openings.{can_open, IsFitting};
+ghost use Rattle.mix_engine.specs.Openings.{can_open};
 ghost use Rattle.mix_collection.specs.Collections.{where_it};
 ghost use Rattle.mix_program.specs.Opened.{collection_of};
 ghost use Rattle.mix_program.specs.Ends.{Ends, Finishes, Stops, status_at, IsWhole, IsTorn, IsStatus};

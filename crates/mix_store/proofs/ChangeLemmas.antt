@@ -1,17 +1,16 @@
 -- One row changed, and no other.
-use Rattle.std.proofs.Common.{◌≡◌, ℕ, zero, suc, ◌+◌, ◌<◌, ◌≤◌, Bool, true, false, not, cond, List}
-use Rattle.std.proofs.Common.{[], ◌∷◌, length, map, filter, find, get_or, slice_set, refl, ap, sym}
-use Rattle.std.proofs.Common.{◌∙◌, arith, Some, None, ◌==◌, eqb-true, eq-eqb, subst, take, drop}
-use Rattle.std.proofs.Common.{◌++◌, length-append, take-append-drop}
-use Rattle.std.proofs.lemmas.List.Sums.{sum_by-cons}
+use Rattle.std.proofs.Common.{◌≡◌, ℕ, zero, suc, ◌+◌, ◌<◌, ◌≤◌, true, false, cond, List, [], ◌∷◌}
+use Rattle.std.proofs.Common.{length, map, find, get_or, slice_set, refl, ap, sym, ◌∙◌, arith, Some}
+use Rattle.std.proofs.Common.{None, ◌==◌, eqb-true, eq-eqb, subst}
+use Rattle.std.proofs.lemmas.List.Sums.{sum_by-cons, sum_by-set}
 use Rattle.mix_model.specs.declared.row.Row.{Row}
 use Rattle.mix_model.specs.Sets.{has, is_distinct}
-use Rattle.mix_model.specs.Rows.{is_at, has_id, shows, new_row, serials_of}
+use Rattle.mix_model.specs.Rows.{is_at, has_id, new_row, serials_of}
 use Rattle.mix_model.specs.Causes.{item_count}
 use Rattle.mix_model.specs.State.{GraphState}
 use Rattle.mix_store.specs.Searched.{InOrder}
 use Rattle.mix_store.specs.RowEdits.{row_edited, item_edited}
-use Rattle.mix_store.specs.declared.row_edit.RowEdit.TheVariants.{Remove, Move, Change, Set, Rename}
+use Rattle.mix_store.specs.declared.row_edit.RowEdit.TheVariants.{Remove, Move, Change}
 use Rattle.mix_model.specs.declared.kind.Kind.TheVariants.{Scene}
 use Rattle.mix_model.specs.declared.settings.Settings.TheVariants.{None as NoSettings}
 use Rattle.mix_model.specs.Items.{without_item, without_child, with_item_changed, with_item_at}
@@ -20,10 +19,10 @@ use Rattle.mix_model.specs.Edits.{row_changed}
 use Rattle.std.proofs.lemmas.List.{length-map}
 use Rattle.mix_store.specs.declared.row_edit.RowEdit.{RowEdit}
 use Rattle.mix_model.proofs.SetLemmas.{and_first, and_second}
-use Rattle.mix_shape.proofs.ThinnerLemmas.{absent_row}
-use Rattle.mix_shape.proofs.SumLemmas.{sum_map, sum_less}
+use Rattle.mix_shape.proofs.ThinnerLemmas.{absent_row, fewer, count_fewer}
+use Rattle.mix_model.proofs.SteadyLemmas.{steady_serials}
+use Rattle.mix_shape.proofs.ThinnerShape.{thinner_without, thinner_child, thinner_moved}
 use Rattle.std.proofs.lemmas.Bool.{not-true, or_left, or_right, false_from_ne_true, both_ways}
-use Rattle.std.proofs.lemmas.List.Filters.{length-filter_both}
 
 -- the rows of this serial changed
 abbrev pub changed : ℕ → (Row → Row) → List Row → List Row
@@ -87,12 +86,7 @@ count_cons row rows = sum_by-cons (λ (r : Row). length r.items) row rows
 pub set_count : (rows : List Row) (i : ℕ) (row d : Row) → i < length rows →
     item_count (slice_set rows i row) + length (get_or rows i d).items
     ≡ item_count rows + length row.items
-set_count [] i row d below = absurd (omega (arith, below))
-set_count (r ∷ rows) zero row d below = omega (arith, count_cons row rows, count_cons r rows)
-set_count (r ∷ rows) (suc i) row d below =
-    let rest : item_count (slice_set rows i row) + length (get_or rows i d).items
-    ≡ item_count rows + length row.items = set_count rows i row d (omega (arith, below)) in
-    omega (arith, rest, count_cons r rows, count_cons r (slice_set rows i row))
+set_count rows i row d below = sum_by-set (λ (r : Row). length r.items) rows i row d below
 
 -- rows of the same serials, with no more items, are in order too
 pub order_same : (rows after : List Row) (dying : List ℕ) (places next : ℕ) →
@@ -123,44 +117,17 @@ order_set rows i row d dying places next order below same less =
 pub edited_serial : (edit : RowEdit) (row : Row) → (row_edited edit row).serial ≡ row.serial
 unfolding without_item with_item_at with_item_changed
 edited_serial (Remove id) row = refl
-edited_serial (Move id index) row = refl
-edited_serial (Change id edit) row = refl
-edited_serial (Set settings sound) row = refl
-edited_serial (Rename name) row = refl
-
-filter_less : {X : Type 0} (p : X → Bool) (xs : List X) → length (filter p xs) ≤ length xs
-filter_less {X} p xs = omega (arith, length-filter_both p (λ (x : X). not (p x)) (λ x. refl) xs)
-
--- a list that is put between the parts of another
-put_between : {X : Type 0} (xs ys : List X) (n : ℕ) →
-    length (take n xs ++ (ys ++ drop n xs)) ≡ length xs + length ys
-put_between xs ys n = omega (
-  arith,
-  length-append (take n xs) (drop n xs),
-  ap length (take-append-drop n xs),
-  length-append (take n xs) (ys ++ drop n xs),
-  length-append ys (drop n xs),
-)
-
-moved_items : (id index : ℕ) (row : Row) →
-    length (with_item_at id index row).items ≡ length row.items
-unfolding with_item_at
-moved_items id index row = omega (
-  arith,
-  put_between (filter (λ i. not (has_id id i)) row.items) (filter (has_id id) row.items) index,
-  length-filter_both (has_id id) (λ i. not (has_id id i)) (λ i. refl) row.items,
-)
+edited_serial edit row = refl
 
 -- nor gives it more items
 pub edited_items : (edit : RowEdit) (row : Row) →
     length (row_edited edit row).items ≤ length row.items
-unfolding without_item with_item_changed
-edited_items (Remove id) row = filter_less (λ i. not (has_id id i)) row.items
-edited_items (Move id index) row = omega (arith, moved_items id index row)
+unfolding with_item_changed
+edited_items (Remove id) row = fewer (without_item id) (thinner_without id) row
+edited_items (Move id index) row = fewer (with_item_at id index) (thinner_moved id index) row
 edited_items (Change id edit) row =
     omega (arith, length-map row.items (λ i. cond (has_id id i) (item_edited edit i) i))
-edited_items (Set settings sound) row = omega arith
-edited_items (Rename name) row = omega arith
+edited_items edit row = omega arith
 
 -- some row
 pub some_row : Row
@@ -176,29 +143,10 @@ pub changed_length : (x : ℕ) (change : Row → Row) (g : GraphState) →
 changed_length x change g = length-map g.rows (λ r. cond (is_at x r) (change r) r)
 
 -- a source that is removed leaves every row, with no more items
-pub without_serials : (x : ℕ) (rows : List Row) →
-    serials_of (map (without_child x) rows) ≡ serials_of rows
-unfolding without_child
-without_serials x [] = refl
-without_serials x (row ∷ rows) = ap (λ ns. row.serial ∷ ns) (without_serials x rows)
-
-less_without : (x : ℕ) (row : Row) → length (without_child x row).items ≤ length row.items
-unfolding without_child
-less_without x row = filter_less (λ i. not (shows x i)) row.items
-
-pub without_count : (x : ℕ) (rows : List Row) →
-    item_count (map (without_child x) rows) ≤ item_count rows
-without_count x rows = omega (
-  arith,
-  sum_map (λ (r : Row). length r.items) (without_child x) rows,
-  sum_less (λ (r : Row). length (without_child x r).items) (λ (r : Row). length r.items)
-      (less_without x) rows,
-)
-
 pub order_without : (x : ℕ) (rows : List Row) (dying : List ℕ) (places next : ℕ) →
     InOrder rows dying places next → InOrder (map (without_child x) rows) dying places next
 order_without x rows dying places next order =
     let few : item_count rows ≤ 2048 = order.items in
-    let less : item_count (map (without_child x) rows) ≤ item_count rows = without_count x rows in
-    order_same rows (map (without_child x) rows) dying places next order (without_serials x rows)
-    (omega (arith, few, less))
+    order_same rows (map (without_child x) rows) dying places next order
+    (steady_serials (without_child x) (thinner_child x).steady rows)
+    (omega (arith, few, count_fewer (without_child x) (thinner_child x) rows))

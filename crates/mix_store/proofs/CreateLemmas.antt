@@ -4,8 +4,7 @@ use Rattle.std.proofs.Common.{is_some, refl, ap, sym, ◌∙◌, arith, Option, 
 use Rattle.std.proofs.Common.{Err, option_copied}
 use denote.Ref.{Bor}
 use Rattle.mix_model.specs.declared.fault.GraphFault.{GraphFault}
-use Rattle.mix_model.specs.declared.fault.GraphFault.TheVariants.{NotFound, WrongKind, Exists}
-use Rattle.mix_model.specs.declared.fault.GraphFault.TheVariants.{Cycle, Depth, TooMany, NoMemory}
+use Rattle.mix_model.specs.declared.fault.GraphFault.TheVariants.{NoMemory}
 use Rattle.mix_model.specs.declared.row.Row.{Row}
 use Rattle.mix_model.specs.Sets.{has}
 use Rattle.std.proofs.lemmas.List.Elements.{filter-append}
@@ -22,24 +21,14 @@ use Rattle.mix_shape.proofs.ThinnerLemmas.{differ_more, below_more}
 -- a cause is a refusal
 pub refused_by : (T : Type 0) (cause : Option GraphFault) (fault : GraphFault) →
     cause ≡ Some fault → (cause ≡ Some NoMemory → ⊥) → RefusedBy {T = T} cause (Err fault)
-refused_by T cause NotFound h other = h
-refused_by T cause WrongKind h other = h
-refused_by T cause Exists h other = h
-refused_by T cause Cycle h other = h
-refused_by T cause Depth h other = h
-refused_by T cause (TooMany limit) h other = h
 refused_by T cause NoMemory h other = absurd (other h)
+refused_by T cause fault h other = h
 
 -- a refusal of one call is that of another of the same cause
 pub refused_same : (T U : Type 0) (a b : Option GraphFault) (fault : GraphFault) → a ≡ b →
     RefusedBy {T = T} a (Err fault) → RefusedBy {T = U} b (Err fault)
-refused_same T U a b NotFound same h = sym same ∙ h
-refused_same T U a b WrongKind same h = sym same ∙ h
-refused_same T U a b Exists same h = sym same ∙ h
-refused_same T U a b Cycle same h = sym same ∙ h
-refused_same T U a b Depth same h = sym same ∙ h
-refused_same T U a b (TooMany limit) same h = sym same ∙ h
 refused_same T U a b NoMemory same h = sym same ∙ h
+refused_same T U a b fault same h = sym same ∙ h
 
 -- there is room where there is room for all rows
 pub room_enough : (rows : List Row) (dying : List ℕ) (room : ℕ) →

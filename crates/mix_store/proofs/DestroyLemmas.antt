@@ -32,8 +32,7 @@ others x rest xs = filter_both (λ y. not (has y rest)) (λ y. not (y == x)) xs
     not_either : (a c b : Bool) → a ≡ c → (not a && not b) ≡ not (c || b)
     not_either true true b same = refl
     not_either false false b same = refl
-    not_either true false b same = cc
-    not_either false true b same = cc
+    not_either a c b same = cc
 
 room_left : (x : ℕ) (dying : List ℕ) (rows : List Row) (room : ℕ) →
     slice_get dying 0 ≡ Some x → HasRoom rows dying room →
@@ -49,8 +48,7 @@ pub order_destroyed : (rows : List Row) (dying : List ℕ) (places next x : ℕ)
     InOrder (filter (λ r. not (is_at x r)) rows) (remove dying 0) places next
 order_destroyed rows dying places next x order found =
     let few : item_count rows ≤ 2048 = order.items in
-    let less : item_count (filter (λ r. not (is_at x r)) rows) ≤ item_count rows =
-    items_left (λ r. not (is_at x r)) rows in
+    let less = items_left (λ r. not (is_at x r)) rows in
     record {
       room = room_left x dying rows places found order.room;
       few = room_left x dying rows next found order.few;

@@ -8,24 +8,16 @@ use Rattle.mix_model.specs.Edits.{frame_released}
 use Rattle.mix_store.specs.RowEdits.{row_edited}
 use Rattle.mix_store.specs.Edited.{edited_by}
 use Rattle.mix_store.specs.declared.edits.Edit.{Edit}
-use Rattle.mix_store.specs.declared.edits.Edit.TheVariants.{Row, Remove, Preview, Release}
-use Rattle.mix_store.specs.declared.edits.Edit.TheVariants.{Unwatch, End}
+use Rattle.mix_store.specs.declared.edits.Edit.TheVariants.{Row, Remove}
 use Rattle.mix_store.proofs.ChangeLemmas.{changed_length}
 
 pub edited_count : (edit : Edit) (g : GraphState) → length (edited_by edit g).rows ≡ length g.rows
 unfolding source_removed preview_set hold_released watch_dropped frame_released
 edited_count (Row serial edit) g = changed_length serial (row_edited edit) g
 edited_count (Remove serial) g = length-map g.rows (without_child serial)
-edited_count (Preview to) g = refl
-edited_count (Release id) g = refl
-edited_count (Unwatch id) g = refl
-edited_count (End number) g = refl
+edited_count edit g = refl
 
 pub edited_clock : (edit : Edit) (g : GraphState) → (edited_by edit g).clock ≡ g.clock
 unfolding source_removed preview_set hold_released watch_dropped frame_released
 edited_clock (Row serial edit) g = refl
-edited_clock (Remove serial) g = refl
-edited_clock (Preview to) g = refl
-edited_clock (Release id) g = refl
-edited_clock (Unwatch id) g = refl
-edited_clock (End number) g = refl
+edited_clock edit g = refl

@@ -79,10 +79,9 @@ flag_put s least (row ∷ rows) (flag ∷ flags) (suc i) d rise same below here 
     let there : (get_or rows i d).serial ≡ s = here in
     let other : (s == row.serial) ≡ false =
     ne_eqb s row.serial (λ own. omega (arith, more, own, there)) in
-    let each : length flags ≡ length rows = omega (arith, same) in
-    let inside : i < length rows = omega (arith, below) in
     let rest : slice_set flags i true ≡ flagged_also (λ x. s == x) rows flags =
-    flag_put s row.serial rows flags i d (and_second _ _ rise) each inside there in
+    flag_put s row.serial rows flags i d (and_second _ _ rise) (omega (arith, same))
+    (omega (arith, below)) there in
     rw (other, or-false flag, ← rest)
 
 -- where no row has it, none is put on

@@ -9,7 +9,7 @@ use Rattle.mix_model.specs.declared.row.Row.{Row}
 use Rattle.mix_model.specs.declared.change.Change.{Change}
 use Rattle.mix_model.specs.Settle.{change_if}
 use Rattle.mix_model.specs.State.{GraphState}
-use Rattle.mix_model.specs.Marks.{Mark, settled_by, row_settled, marks_of, mark_of}
+use Rattle.mix_model.specs.Marks.{Mark, settled_by, row_settled, mark_of}
 use Rattle.mix_model.specs.Walks.{is_active, is_showing}
 use Rattle.mix_store.specs.Settling.{marked_by, told_by}
 use Rattle.mix_store.proofs.ChangeLemmas.{count_cons}
@@ -20,16 +20,12 @@ pub settled_length : (marks : List Mark) (g : GraphState) →
 unfolding settled_by
 settled_length marks g = length-map g.rows (row_settled marks g)
 
-marked_from : (g : GraphState) (rows : List Row) →
+-- the marks by flags are the marks
+pub marked_from : (g : GraphState) (rows : List Row) →
     marked_by rows (map (λ r. is_active g r.serial) rows)
     (map (λ r. is_showing g r.serial) rows) ≡ map (mark_of g) rows
 marked_from g [] = refl
 marked_from g (row ∷ rows) = ap (λ ms. mark_of g row ∷ ms) (marked_from g rows)
-
--- the marks by flags are the marks
-pub marked_all : (g : GraphState) → marked_by g.rows (map (λ r. is_active g r.serial) g.rows)
-    (map (λ r. is_showing g r.serial) g.rows) ≡ marks_of g
-marked_all g = marked_from g g.rows
 
 -- a row has no more items than all rows together
 pub found_items : (x : ℕ) (rows : List Row) (row : Row) → find (is_at x) rows ≡ Some row →
@@ -38,12 +34,8 @@ found_items x [] row found = cc
 found_items x (r ∷ rows) row found =
     (elim (is_at x r) as (λ b. cond b (Some r) (find (is_at x) rows) ≡ Some row →
     length row.items ≤ item_count (r ∷ rows)) [
-      | true ↦ λ here. let same : r ≡ row = cc in
-          let few : length row.items ≡ length r.items = ap (λ (z : Row). length z.items) (sym same) in
-          omega (arith, few, count_cons r rows)
-      | false ↦ λ there. let few : length row.items ≤ item_count rows =
-          found_items x rows row there in
-          omega (arith, few, count_cons r rows)
+      | true ↦ λ here. let same : r ≡ row = cc in rw (← same) (omega (arith, count_cons r rows))
+      | false ↦ λ there. omega (arith, found_items x rows row there, count_cons r rows)
     ]) found
 
 -- flags that are all written

@@ -8,7 +8,6 @@ use Rattle.std.proofs.lemmas.Cmp.{ranked}
 use Rattle.std.proofs.lemmas.List.Sorted.{IsNonDecreasingBy-from_default}
 use Rattle.std.proofs.lemmas.Bool.{cases_lt, ltb-true, eq-eqb, ne_eqb}
 use Rattle.std.proofs.lemmas.Bool.Decides.{nat_tests}
-use Rattle.mix_model.specs.Marks.{Mark}
 use Rattle.mix_model.specs.Sets.{rises_above}
 use Rattle.mix_model.proofs.SetLemmas.{and_first, and_second}
 
@@ -76,15 +75,7 @@ pub search_at : {X : Type 0} (key : X → ℕ) (d : X) (xs : List X) (x at : ℕ
     IsBinarySearchResult (λ e. nat_cmp (key e) x) xs (Ok at) → key (get_or xs at d) ≡ x
 search_at key d xs x at equal = ranked _ x _ (sym (equal d))
 
--- the one that is found
-pub search_found : {X : Type 0} (key : X → ℕ) (d : X) (least : ℕ) (xs : List X) →
-    rises_above least (map key xs) ≡ true → (x at : ℕ) →
-    IsSearchInRange (Ok at) (length xs) →
-    IsBinarySearchResult (λ e. nat_cmp (key e) x) xs (Ok at) →
-    find (λ e. key e == x) xs ≡ Some (get_or xs at d)
-search_found key d least xs rise x at within equal =
-    key_found key d least xs rise x at within (search_at key d xs x at equal)
-
+-- and where it fails, none has it
 pub search_failed : {X : Type 0} (key : X → ℕ) (d : X) (least : ℕ) (xs : List X) →
     rises_above least (map key xs) ≡ true → (x at : ℕ) →
     IsSearchInRange (Err at) (length xs) →
@@ -99,7 +90,3 @@ search_failed key d least xs rise x at within parted =
       | inr after ↦ let more : x < key (get_or xs j d) = ranked _ x _ (sym (sides.1 j d after inside)) in
           omega (arith, more, same)
     ])
-
--- some mark
-pub no_mark : Mark
-no_mark = record { serial = 0; active = false; showing = false; since = 0 }

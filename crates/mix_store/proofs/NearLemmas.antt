@@ -3,6 +3,7 @@ use Rattle.std.proofs.Common.{◌≡◌, ℕ, Bool, true, false, ◌==◌, ◌&&
 use Rattle.std.proofs.Common.{◌∷◌, map, find, Option, Some, None, refl, ap, sym, ◌∙◌, nat_le, subst}
 use Rattle.std.proofs.Common.{option_and_then, eqb-true, eq-eqb, IsTrue}
 use Rattle.std.specs.List.{list_all, list_any}
+use Rattle.std.specs.Cmp.{both_ways as same_answer}
 use Rattle.std.specs.Option.{option_map_or}
 use Rattle.std.proofs.lemmas.Bool.{not-true, or_parts, or_from, false_from_ne_true, both_ways}
 use Rattle.mix_model.specs.declared.item.Item.{Item}
@@ -18,11 +19,6 @@ use Rattle.mix_shape.specs.declared.new_item.NewItem.{NewItem}
 use Rattle.mix_shape.specs.NewItems.{inside_with, inside_or_new, rank_with, weight_with}
 use Rattle.mix_shape.proofs.SumLemmas.{found_any}
 use Rattle.mix_store.specs.Searched.{RowsRise, IsNear, is_near, is_top}
-
-same_answer : (a b : Bool) → (a ≡ true → b ≡ true) → (b ≡ true → a ≡ true) → a ≡ b
-same_answer true b up down = sym (up refl)
-same_answer false true up down = down refl
-same_answer false false up down = refl
 
 -- what each child passes
 each_child : (q : ℕ → Bool) (items : List Item) →

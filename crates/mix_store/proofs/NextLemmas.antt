@@ -19,15 +19,9 @@ all_more : (p q : ℕ → Bool) → ((y : ℕ) → p y ≡ true → q y ≡ true
 all_more p q step xs y all one =
     rw (list_all-append q xs (y ∷ []), all_imply p q step xs all, one) refl
 
-has_more : (z : ℕ) (xs : List ℕ) (y : ℕ) → has z xs ≡ true → has z (xs ++ y ∷ []) ≡ true
-has_more z xs y there = rw (has_append z xs (y ∷ []), there) refl
-
 has_last : (xs : List ℕ) (y : ℕ) → has y (xs ++ y ∷ []) ≡ true
 has_last xs y = rw (has_append y xs (y ∷ []))
     (or_right (has y xs) _ (or_left (y == y) _ (eq-eqb y y refl)))
-
-first_above : (x y z : ℕ) → (nat_le y x || nat_le z y) ≡ false → nat_lt x y ≡ true
-first_above x y z near = grind (arith, nat_tests, near)
 
 still_least : (x y z w : ℕ) → (nat_le y x || nat_le z y) ≡ false →
     (nat_le w x || nat_le z w) ≡ true → (nat_le w x || nat_le y w) ≡ true
@@ -43,10 +37,9 @@ next_more x xs None y all = (elim (nat_le y x) as (λ b. nat_le y x ≡ b →
     is_next x (xs ++ y ∷ []) (cond b None (Some y)) ≡ true) [
       | true ↦ λ below. all_more (λ w. nat_le w x) (λ w. nat_le w x) (λ w h. h) xs y all below
       | false ↦ λ above. let over : nat_lt x y ≡ true = grind (arith, nat_tests, above) in
-          let own : nat_le y y ≡ true = grind (arith, nat_tests) in
           rw (has_last xs y, over)
           (all_more (λ w. nat_le w x) (λ w. nat_le w x || nat_le y w) (λ w h. rw h refl) xs y all
-          (rw (above, own) refl))
+          (itself x y))
     ]) refl
 next_more x xs (Some z) y all =
     let there : has z xs ≡ true = and_first _ _ all in
@@ -55,10 +48,10 @@ next_more x xs (Some z) y all =
     and_second _ _ (and_second _ _ all) in
     (elim (nat_le y x || nat_le z y) as (λ b. (nat_le y x || nat_le z y) ≡ b →
     is_next x (xs ++ y ∷ []) (cond b (Some z) (Some y)) ≡ true) [
-      | true ↦ λ past. rw (has_more z xs y there, over)
+      | true ↦ λ past. rw (has_append z xs (y ∷ []), there, over)
           (all_more (λ w. nat_le w x || nat_le z w) (λ w. nat_le w x || nat_le z w) (λ w h. h) xs
           y least past)
-      | false ↦ λ nearer. let above : nat_lt x y ≡ true = first_above x y z nearer in
+      | false ↦ λ nearer. let above : nat_lt x y ≡ true = grind (arith, nat_tests, nearer) in
           rw (has_last xs y, above)
           (all_more (λ w. nat_le w x || nat_le z w) (λ w. nat_le w x || nat_le y w)
           (λ w h. still_least x y z w nearer h) xs y least (itself x y))

@@ -10,7 +10,7 @@ use Rattle.mix_model.specs.Rows.{serials_of}
 use Rattle.mix_model.specs.State.{GraphState}
 use Rattle.mix_model.specs.Marks.{Mark, row_settled, settled_by}
 use Rattle.mix_model.specs.Settle.{newly_dying}
-use Rattle.mix_model.specs.Walks.{is_active, active_rows}
+use Rattle.mix_model.specs.Walks.{is_active}
 use Rattle.mix_model.specs.Causes.{item_count}
 use Rattle.mix_model.specs.declared.item.ItemSpec.{ItemSpec}
 use Rattle.mix_model.specs.Edits.{item_added}
@@ -28,17 +28,7 @@ use Rattle.mix_store.specs.Searched.{HasRoom}
 use Rattle.mix_store.specs.Settling.{since_by, numbered, begins_to_die, flagged, with_numbers}
 use Rattle.mix_store.proofs.ChangeLemmas.{some_row, count_cons}
 
--- a row whose flag is on is the next to die
-pub flag_on : (rows : List Row) (flags : List Bool) (i : ℕ) (row : Row) →
-    length flags ≡ length rows → i < length flags → row ≡ get_or rows i row →
-    get_or flags i false ≡ true →
-    flagged (drop i rows) (drop i flags)
-    ≡ row.serial ∷ flagged (drop (i + 1) rows) (drop (i + 1) flags)
-flag_on rows flags i row same below there on =
-    let within : i < length rows = omega (arith, same, below) in
-    rw (drop_more rows i row within, drop_more flags i false below, on, ← there)
-
--- and one whose flag is off isn't
+-- a row whose flag is off isn't the next to die
 pub flag_off : (rows : List Row) (flags : List Bool) (i : ℕ) →
     length flags ≡ length rows → i < length flags →
     get_or flags i false ≡ false →
@@ -47,32 +37,35 @@ flag_off rows flags i same below off =
     let within : i < length rows = omega (arith, same, below) in
     rw (drop_more rows i some_row within, drop_more flags i false below, off)
 
--- there is room for a row whose flag is on
-pub room_for_one : (rows : List Row) (flags : List Bool) (i : ℕ) (row : Row)
-    (before now : List ℕ) (room : ℕ) →
-    length flags ≡ length rows → i < length flags → row ≡ get_or rows i row →
-    get_or flags i false ≡ true →
-    now ++ flagged (drop i rows) (drop i flags) ≡ before ++ flagged rows flags →
-    length before + length (flagged rows flags) ≤ room → length now < room
-room_for_one rows flags i row before now room same below there on so_far had =
-    let all : length now + length (flagged (drop i rows) (drop i flags))
-    ≡ length before + length (flagged rows flags) =
-    sym (length-append now (flagged (drop i rows) (drop i flags))) ∙ ap length so_far
-    ∙ length-append before (flagged rows flags) in
-    let next : length (flagged (drop i rows) (drop i flags))
-    ≡ suc (length (flagged (drop (i + 1) rows) (drop (i + 1) flags))) =
-    ap length (flag_on rows flags i row same below there on) in
-    omega (arith, all, next, had)
+module _ (rows : List Row) (flags : List Bool) (i : ℕ) (row : Row)
+    (same : length flags ≡ length rows) (below : i < length flags)
+    (there : row ≡ get_or rows i row) (on : get_or flags i false ≡ true) where
+  -- and one whose flag is on is
+  flag_on : flagged (drop i rows) (drop i flags)
+      ≡ row.serial ∷ flagged (drop (i + 1) rows) (drop (i + 1) flags)
+  flag_on =
+      let within : i < length rows = omega (arith, same, below) in
+      rw (drop_more rows i row within, drop_more flags i false below, on, ← there)
 
--- a row more is in the dying list
-pub one_more : (rows : List Row) (flags : List Bool) (i : ℕ) (row : Row) (now all : List ℕ) →
-    length flags ≡ length rows → i < length flags → row ≡ get_or rows i row →
-    get_or flags i false ≡ true →
-    now ++ flagged (drop i rows) (drop i flags) ≡ all →
-    (now ++ row.serial ∷ []) ++ flagged (drop (i + 1) rows) (drop (i + 1) flags) ≡ all
-one_more rows flags i row now all same below there on so_far =
-    append_assoc now (row.serial ∷ []) (flagged (drop (i + 1) rows) (drop (i + 1) flags))
-    ∙ ap (λ xs. now ++ xs) (sym (flag_on rows flags i row same below there on)) ∙ so_far
+  -- there is room for it
+  pub room_for_one : (before now : List ℕ) (room : ℕ) →
+      now ++ flagged (drop i rows) (drop i flags) ≡ before ++ flagged rows flags →
+      length before + length (flagged rows flags) ≤ room → length now < room
+  room_for_one before now room so_far had =
+      let all : length now + length (flagged (drop i rows) (drop i flags))
+      ≡ length before + length (flagged rows flags) =
+      sym (length-append now (flagged (drop i rows) (drop i flags))) ∙ ap length so_far
+      ∙ length-append before (flagged rows flags) in
+      let next : length (flagged (drop i rows) (drop i flags))
+      ≡ suc (length (flagged (drop (i + 1) rows) (drop (i + 1) flags))) = ap length flag_on in
+      omega (arith, all, next, had)
+
+  -- a row more is in the dying list
+  pub one_more : (now all : List ℕ) → now ++ flagged (drop i rows) (drop i flags) ≡ all →
+      (now ++ row.serial ∷ []) ++ flagged (drop (i + 1) rows) (drop (i + 1) flags) ≡ all
+  one_more now all so_far =
+      append_assoc now (row.serial ∷ []) (flagged (drop (i + 1) rows) (drop (i + 1) flags))
+      ∙ ap (λ xs. now ++ xs) (sym flag_on) ∙ so_far
 
 -- flags by a test
 pub flagged_by : (p : ℕ → Bool) (rows : List Row) →
@@ -133,11 +126,9 @@ kept_split p q r (x ∷ xs) all =
 one_place : (p before more : Bool) → (p ≡ true → before ≡ false) → (p ≡ true → more ≡ true) →
     one_if (not (before || more)) + one_if p ≤ one_if (not before)
 one_place true true more was now = absurd (both_ways true (was refl) refl)
-one_place true false true was now = omega arith
 one_place true false false was now = absurd (both_ways false refl (now refl))
-one_place false true more was now = omega arith
 one_place false false true was now = omega arith
-one_place false false false was now = omega arith
+one_place p before more was now = omega arith
 
 places : (g : GraphState) (p : ℕ → Bool) → ((x : ℕ) → p x ≡ true → has x g.dying ≡ false) →
     length (filter (λ x. not (has x (g.dying ++ filter p (serials_of g.rows)))) (serials_of g.rows))
@@ -190,14 +181,5 @@ count_numbered marks clock (row ∷ rows) (flag ∷ flags) =
 pub flagged_few : (rows : List Row) (flags : List Bool) → length (flagged rows flags) ≤ length rows
 flagged_few [] flags = omega arith
 flagged_few (row ∷ rows) [] = omega arith
-flagged_few (row ∷ rows) (true ∷ flags) =
-    let few : length (flagged rows flags) ≤ length rows = flagged_few rows flags in
-    omega (arith, few)
-flagged_few (row ∷ rows) (false ∷ flags) =
-    let few : length (flagged rows flags) ≤ length rows = flagged_few rows flags in
-    omega (arith, few)
-
--- the rows whose flag of activity is on are those that a frame lists
-pub flagged_active : (g : GraphState) →
-    flagged g.rows (map (λ r. is_active g r.serial) g.rows) ≡ active_rows g
-flagged_active g = flagged_by (is_active g) g.rows
+flagged_few (row ∷ rows) (true ∷ flags) = omega (arith, flagged_few rows flags)
+flagged_few (row ∷ rows) (false ∷ flags) = omega (arith, flagged_few rows flags)

@@ -1,9 +1,11 @@
 -- Fresh sources stay fresh with each line, and there is nothing to settle.
 use Rattle.std.proofs.Common.{◌≡◌, ◌∙◌, ℕ, ◌+◌, ◌<◌, ◌≤◌, ◌==◌, Bool, true, false, cond, not, ◌&&◌, ◌||◌}
 use Rattle.std.proofs.Common.{List, [], ◌∷◌, ◌++◌, All, map, filter, find, length, get_or}
-use Rattle.std.proofs.Common.{Option, Some, is_some, IfSome, refl, sym, ap, subst, arith}
+use Rattle.std.proofs.Common.{Option, Some, None, is_some, IfSome, refl, sym, ap, subst, arith}
+use Rattle.std.proofs.Common.{option_map, unwrap_or}
 use Rattle.std.proofs.Common.{append-nil, eq-eqb, leb-true}
 use Rattle.std.specs.List.{list_any}
+use Rattle.std.specs.Option.{option_map_or}
 use Rattle.std.proofs.lemmas.List.{length-append, length-map}
 use Rattle.std.proofs.lemmas.List.Sums.{get_or-le-sum_by}
 use Rattle.std.proofs.lemmas.List.Folds.{list_any-append}
@@ -19,18 +21,21 @@ use Rattle.mix_model.specs.Causes.{item_count}
 use Rattle.mix_model.specs.Edits.{channel_set, empty_graph, group_created, input_created}
 use Rattle.mix_model.specs.Edits.{input_set, item_added, preview_set, scene_created}
 use Rattle.mix_model.specs.Edits.{set_to}
-use Rattle.mix_model.specs.Holders.{is_held, is_on, lists, names, shows_some}
+use Rattle.mix_model.specs.Holders.{find_named, is_held, is_named_row, is_on, lists, names}
+use Rattle.mix_model.specs.Holders.{shows_some}
 use Rattle.mix_model.specs.Items.{new_item, with_item}
+use Rattle.mix_model.specs.Lines.{serial_named}
 use Rattle.mix_model.specs.Lookups.{registry, row_of}
 use Rattle.mix_model.specs.Marks.{GraphModel, edited, row_settled, settled_by}
-use Rattle.mix_model.specs.Rows.{is_at, new_row, serials_of, shows}
+use Rattle.mix_model.specs.Rows.{is_at, is_group, new_row, serials_of, shows}
 use Rattle.mix_model.specs.Sets.{has}
 use Rattle.mix_model.specs.Settle.{newly_dying}
 use Rattle.mix_model.specs.Shape.{GraphShape}
 use Rattle.mix_model.specs.State.{Channel, GraphState}
 use Rattle.mix_model.specs.Values.{new_sound}
 use Rattle.mix_model.specs.Walks.{is_active}
-use Rattle.mix_model.proofs.SetLemmas.{or_left, or_right}
+use Rattle.mix_model.proofs.CalledLemmas.{AreNamed, called}
+use Rattle.mix_model.proofs.SetLemmas.{and_imply, or_imply, or_left, or_right}
 use Rattle.mix_studio.specs.Openings.{IsFresh, IsFreshRow, IsLeft, is_rooted}
 
 -- ---- there is nothing to settle
@@ -54,27 +59,68 @@ rows_kept g (r ∷ rows) clock unmarked =
     (row_kept g r clock (All-head (λ r. r.since ≡ 0) r rows unmarked))
     ∙ ap (λ l. r ∷ l) (rows_kept g rows clock (All-tail (λ r. r.since ≡ 0) r rows unmarked))
 
-holds_rooted : (a b c d : Bool) → (a || c) ≡ true → (a || (b || (c || d))) ≡ true
-holds_rooted true b c d rooted = refl
-holds_rooted false true c d rooted = refl
-holds_rooted false false true d rooted = refl
-holds_rooted false false false d rooted = cc
+holds_rooted : (a b c d e : Bool) → (a || (b && c)) ≡ true → (a || (d || (c || e))) ≡ true
+holds_rooted true b c d e rooted = refl
+holds_rooted false b c true e rooted = refl
+holds_rooted false b true false e rooted = refl
+holds_rooted false b false false e rooted = absurd (none b rooted)
+  where
+    none : (b : Bool) → (b && false) ≡ true → ⊥
+    none true some = cc
+    none false some = cc
 
-rooted_held : (g : GraphState) (x : ℕ) → is_rooted g x ≡ true → is_held g x ≡ true
+rooted_held : (g : GraphState) (r : Row) → is_rooted g r ≡ true → is_held g r.serial ≡ true
 unfolding is_held
-rooted_held g x rooted = holds_rooted (has x (registry g)) (list_any (names x) g.channels)
-    (list_any (shows_some x) g.rows)
-    (list_any (is_on x) g.holds || list_any (lists x) g.frames) rooted
+rooted_held g r rooted = holds_rooted (has r.serial (registry g)) (is_group r.kind)
+    (list_any (shows_some r.serial) g.rows) (list_any (names r.serial) g.channels)
+    (list_any (is_on r.serial) g.holds || list_any (lists r.serial) g.frames) rooted
 
-none_dies : (g : GraphState) (rows : List Row) → All (λ r. is_rooted g r.serial ≡ true) rows →
+names_rooted : (a b c d : Bool) → (c ≡ true → d ≡ true) → (a || (b && c)) ≡ true →
+    (a || (b && d)) ≡ true
+names_rooted a b c d more rooted =
+    or_imply a (b && c) a (b && d) (λ here. here) (and_imply b c b d (λ kind. kind) more) rooted
+
+shown_held : (g : GraphState) (x : ℕ) → list_any (shows_some x) g.rows ≡ true →
+    is_held g x ≡ true
+unfolding is_held
+shown_held g x shown = or_right _ _ (or_right _ _ (or_left _ _ shown))
+
+rooted_named : (g : GraphState) (r : Row) → is_rooted g r ≡ true → is_named_row g r ≡ true
+unfolding is_named_row
+rooted_named g r rooted = names_rooted (has r.serial (registry g)) (is_group r.kind)
+    (list_any (shows_some r.serial) g.rows) (is_held g r.serial) (shown_held g r.serial) rooted
+
+-- so every row of fresh sources is named
+pub all_named : (m : GraphModel) → IsFresh m → AreNamed m.present
+all_named m fresh = record {
+  named = λ k d within. rooted_named m.present (get_or m.present.rows k d)
+      (fresh.rows k d within).rooted;
+  counted = λ k d within. (fresh.rows k d within).counted;
+}
+
+mapped_or : (o : Option Row) → unwrap_or (option_map (λ r. r.serial) o) 0
+    ≡ option_map_or (λ r. r.serial) o 0
+mapped_or None = refl
+mapped_or (Some r) = refl
+
+-- and the serial that a look-up of named rows finds is the one that a line finds
+pub serial_found : (m : GraphModel) → IsFresh m → (name : List ℕ) (found : Option ℕ) →
+    found ≡ option_map (λ r. r.serial) (find_named m.present name) →
+    unwrap_or found 0 ≡ serial_named m.present name
+serial_found m fresh name found is = ap (λ (o : Option ℕ). unwrap_or o 0) is
+    ∙ mapped_or (find_named m.present name)
+    ∙ ap (λ (o : Option Row). option_map_or (λ r. r.serial) o 0)
+    (called m.present (all_named m fresh) name)
+
+none_dies : (g : GraphState) (rows : List Row) → All (λ r. is_rooted g r ≡ true) rows →
     filter (λ x. not (is_held g x) && not (has x g.dying)) (serials_of rows) ≡ []
 none_dies g [] rooted = refl
 none_dies g (r ∷ rows) rooted =
     let dies : ℕ → Bool = λ x. not (is_held g x) && not (has x g.dying) in
     ap (λ b. cond (not b && not (has r.serial g.dying)) (r.serial ∷ filter dies (serials_of rows))
     (filter dies (serials_of rows)))
-    (rooted_held g r.serial (All-head (λ r. is_rooted g r.serial ≡ true) r rows rooted))
-    ∙ none_dies g rows (All-tail (λ r. is_rooted g r.serial ≡ true) r rows rooted)
+    (rooted_held g r (All-head (λ r. is_rooted g r ≡ true) r rows rooted))
+    ∙ none_dies g rows (All-tail (λ r. is_rooted g r ≡ true) r rows rooted)
 
 settled_already : (g : GraphState) → g.clock ≡ 0 → All (IsFreshRow g) g.rows →
     settled_by [] g ≡ g
@@ -116,20 +162,28 @@ either_more false true c d left right rooted = or_right c d (right refl)
 either_more false false c d left right rooted = cc
 
 -- what is rooted stays so where neither the registry nor the items of the rows get less
-pub rooted_more : (g h : GraphState) (x : ℕ) →
-    (has x (registry g) ≡ true → has x (registry h) ≡ true) →
-    (list_any (shows_some x) g.rows ≡ true → list_any (shows_some x) h.rows ≡ true) →
-    is_rooted g x ≡ true → is_rooted h x ≡ true
-rooted_more g h x listed shown rooted = either_more (has x (registry g))
-    (list_any (shows_some x) g.rows) (has x (registry h)) (list_any (shows_some x) h.rows)
-    listed shown rooted
+pub rooted_more : (g h : GraphState) (r : Row) →
+    (has r.serial (registry g) ≡ true → has r.serial (registry h) ≡ true) →
+    (list_any (shows_some r.serial) g.rows ≡ true →
+    list_any (shows_some r.serial) h.rows ≡ true) →
+    is_rooted g r ≡ true → is_rooted h r ≡ true
+rooted_more g h r listed shown rooted = or_imply (has r.serial (registry g))
+    (is_group r.kind && list_any (shows_some r.serial) g.rows) (has r.serial (registry h))
+    (is_group r.kind && list_any (shows_some r.serial) h.rows) listed
+    (and_imply (is_group r.kind) (list_any (shows_some r.serial) g.rows) (is_group r.kind)
+    (list_any (shows_some r.serial) h.rows) (λ kind. kind) shown) rooted
 
 pub fresh_row : (g h : GraphState) (r s : Row) → s.since ≡ r.since → s.serial ≡ r.serial →
-    s.next_item ≡ length s.items + 1 → (is_rooted g r.serial ≡ true → is_rooted h r.serial ≡ true) →
-    IsFreshRow g r → IsFreshRow h s
-fresh_row g h r s since serial items more fresh = record {
+    s.kind ≡ r.kind → s.next_item ≡ length s.items + 1 →
+    (is_rooted g r ≡ true → is_rooted h r ≡ true) → IsFreshRow g r → IsFreshRow h s
+fresh_row g h r s since serial kind items more fresh = record {
   unmarked = since ∙ fresh.unmarked;
-  rooted = ap (is_rooted h) serial ∙ more fresh.rooted;
+  rooted = ap (λ x. has x (registry h) || (is_group s.kind && list_any (shows_some x) h.rows))
+      serial
+      ∙ ap (λ k. has r.serial (registry h)
+      || (is_group k && list_any (shows_some r.serial) h.rows)) kind
+      ∙ more fresh.rooted;
+  counted = subst (λ (x : ℕ). 0 < x) (sym serial) fresh.counted;
   items = items;
 }
 
@@ -175,10 +229,14 @@ input_itself x scenes inputs = list_any-append (λ z. z == x) scenes (inputs ++ 
 
 -- a new row is fresh where something roots it
 new_fresh : (g : GraphState) (x : ℕ) (name : List ℕ) (kind : Kind) (settings : Settings) →
-    is_rooted g x ≡ true → IsFreshRow g (new_row x name kind settings new_sound)
+    0 < x → (has x (registry g) || (is_group kind && list_any (shows_some x) g.rows)) ≡ true →
+    IsFreshRow g (new_row x name kind settings new_sound)
 unfolding new_row
-new_fresh g x name kind settings rooted =
-    record { unmarked = refl; rooted = rooted; items = refl }
+new_fresh g x name kind settings above rooted =
+    record { unmarked = refl; rooted = rooted; counted = above; items = refl }
+
+above_none : (rows : List Row) (next : ℕ) → next ≡ length rows + 1 → 0 < next
+above_none rows next serials = omega (arith, serials)
 
 counted : (rows : List Row) (r : Row) (next : ℕ) → next ≡ length rows + 1 →
     next + 1 ≡ length (rows ++ r ∷ []) + 1
@@ -200,11 +258,12 @@ module _ (m : GraphModel) (fresh : IsFresh m) where
         frames = fresh.frames;
         rows = All-push (IsFreshRow (scene_created name g)) g.rows row
             (λ k d within. fresh_row g (scene_created name g) (get_or g.rows k d) (get_or g.rows k d)
-            refl refl (fresh.rows k d within).items
-            (rooted_more g (scene_created name g) (get_or g.rows k d).serial
+            refl refl refl (fresh.rows k d within).items
+            (rooted_more g (scene_created name g) (get_or g.rows k d)
             (scene_listed (get_or g.rows k d).serial g.next_serial g.scenes g.inputs)
             (any_append (get_or g.rows k d).serial g.rows (row ∷ []))) (fresh.rows k d within))
             (new_fresh (scene_created name g) g.next_serial name Scene NoSettings
+            (above_none g.rows g.next_serial fresh.serials)
             (or_left _ _ (scene_itself g.next_serial g.scenes g.inputs)));
         serials = counted g.rows row g.next_serial fresh.serials;
       }
@@ -220,11 +279,12 @@ module _ (m : GraphModel) (fresh : IsFresh m) where
         frames = fresh.frames;
         rows = All-push (IsFreshRow (input_created name kind settings g)) g.rows row
             (λ k d within. fresh_row g (input_created name kind settings g) (get_or g.rows k d)
-            (get_or g.rows k d) refl refl (fresh.rows k d within).items
-            (rooted_more g (input_created name kind settings g) (get_or g.rows k d).serial
+            (get_or g.rows k d) refl refl refl (fresh.rows k d within).items
+            (rooted_more g (input_created name kind settings g) (get_or g.rows k d)
             (input_listed (get_or g.rows k d).serial g.next_serial g.scenes g.inputs)
             (any_append (get_or g.rows k d).serial g.rows (row ∷ []))) (fresh.rows k d within))
             (new_fresh (input_created name kind settings g) g.next_serial name kind settings
+            (above_none g.rows g.next_serial fresh.serials)
             (or_left _ _ (input_itself g.next_serial g.scenes g.inputs)));
         serials = counted g.rows row g.next_serial fresh.serials;
       }
@@ -238,7 +298,7 @@ module _ (m : GraphModel) (fresh : IsFresh m) where
     clock = fresh.clock;
     frames = fresh.frames;
     rows = λ k d within. fresh_row g (channel_set number channel g) (get_or g.rows k d)
-        (get_or g.rows k d) refl refl (fresh.rows k d within).items (λ rooted. rooted)
+        (get_or g.rows k d) refl refl refl (fresh.rows k d within).items (λ rooted. rooted)
         (fresh.rows k d within);
     serials = fresh.serials;
   }
@@ -250,7 +310,7 @@ module _ (m : GraphModel) (fresh : IsFresh m) where
     clock = fresh.clock;
     frames = fresh.frames;
     rows = λ k d within. fresh_row g (preview_set to g) (get_or g.rows k d)
-        (get_or g.rows k d) refl refl (fresh.rows k d within).items (λ rooted. rooted)
+        (get_or g.rows k d) refl refl refl (fresh.rows k d within).items (λ rooted. rooted)
         (fresh.rows k d within);
     serials = fresh.serials;
   }
@@ -271,6 +331,12 @@ item_serial : (child : ℕ) (spec : ItemSpec) (r : Row) (b : Bool) →
 unfolding with_item
 item_serial child spec r true = refl
 item_serial child spec r false = refl
+
+item_kind : (child : ℕ) (spec : ItemSpec) (r : Row) (b : Bool) →
+    (cond b (with_item child spec r) r).kind ≡ r.kind
+unfolding with_item
+item_kind child spec r true = refl
+item_kind child spec r false = refl
 
 item_next : (child : ℕ) (spec : ItemSpec) (r : Row) (b : Bool) →
     r.next_item ≡ length r.items + 1 →
@@ -298,11 +364,11 @@ rows_shown x parent child spec rows shown = any_map (shows_some x) (with_item_in
 
 -- a row with an item more, or as it was
 item_fresh_row : (g h : GraphState) (parent child : ℕ) (spec : ItemSpec) (r : Row) →
-    (is_rooted g r.serial ≡ true → is_rooted h r.serial ≡ true) → IsFreshRow g r →
+    (is_rooted g r ≡ true → is_rooted h r ≡ true) → IsFreshRow g r →
     IsFreshRow h (with_item_in parent child spec r)
 item_fresh_row g h parent child spec r more fresh = fresh_row g h r
     (with_item_in parent child spec r) (item_since child spec r (is_at parent r))
-    (item_serial child spec r (is_at parent r))
+    (item_serial child spec r (is_at parent r)) (item_kind child spec r (is_at parent r))
     (item_next child spec r (is_at parent r) fresh.items) more fresh
 
 -- rows with an item more
@@ -313,7 +379,7 @@ unfolding item_added
 item_added_rows g parent child spec rows =
     All-map (IsFreshRow (item_added parent child spec g)) (with_item_in parent child spec) g.rows
     (λ k d within. item_fresh_row g (item_added parent child spec g) parent child spec
-    (get_or g.rows k d) (rooted_more g (item_added parent child spec g) (get_or g.rows k d).serial
+    (get_or g.rows k d) (rooted_more g (item_added parent child spec g) (get_or g.rows k d)
     (λ listed. listed) (rows_shown (get_or g.rows k d).serial parent child spec g.rows))
     (rows k d within))
 
@@ -365,20 +431,20 @@ shown_in x parent spec (r ∷ rows) more there = shown_first x parent spec r row
     (is_at parent r) refl there (shown_in x parent spec rows more)
 
 group_rows : (g : GraphState) (name : List ℕ) (parent : ℕ) (spec : ItemSpec) →
-    is_some (row_of g parent) ≡ true → All (IsFreshRow g) g.rows →
+    is_some (row_of g parent) ≡ true → 0 < g.next_serial → All (IsFreshRow g) g.rows →
     All (IsFreshRow (group_created name parent spec g)) (group_created name parent spec g).rows
 unfolding group_created item_added
-group_rows g name parent spec there rows =
+group_rows g name parent spec there above rows =
     let row : Row = new_row g.next_serial name Group NoSettings new_sound in
     let h : GraphState = group_created name parent spec g in
     All-map (IsFreshRow h) (with_item_in parent g.next_serial spec) (g.rows ++ row ∷ [])
     (All-push (λ r. IsFreshRow h (with_item_in parent g.next_serial spec r)) g.rows row
     (λ k d within. item_fresh_row g h parent g.next_serial spec (get_or g.rows k d)
-    (rooted_more g h (get_or g.rows k d).serial (λ listed. listed)
+    (rooted_more g h (get_or g.rows k d) (λ listed. listed)
     (λ shown. rows_shown (get_or g.rows k d).serial parent g.next_serial spec (g.rows ++ row ∷ [])
     (any_append (get_or g.rows k d).serial g.rows (row ∷ []) shown))) (rows k d within))
     (item_fresh_row h h parent g.next_serial spec row (λ rooted. rooted)
-    (new_fresh h g.next_serial name Group NoSettings
+    (new_fresh h g.next_serial name Group NoSettings above
     (or_right _ _ (shown_in g.next_serial parent spec g.rows (row ∷ []) there)))))
 
 group_counted : (g : GraphState) (name : List ℕ) (parent : ℕ) (spec : ItemSpec) →
@@ -400,7 +466,8 @@ group_fresh m fresh name parent spec there = record {
   begun = fresh.begun;
   clock = fresh.clock;
   frames = fresh.frames;
-  rows = group_rows m.present name parent spec there fresh.rows;
+  rows = group_rows m.present name parent spec there
+      (above_none m.present.rows m.present.next_serial fresh.serials) fresh.rows;
   serials = group_counted m.present name parent spec fresh.serials;
 }
 
@@ -410,11 +477,12 @@ abbrev set_in : ℕ → Settings → Sound → Row → Row
 set_in x settings sound r = cond (is_at x r) (set_to settings sound r) r
 
 set_row : (g h : GraphState) (settings : Settings) (sound : Sound) (r : Row) (b : Bool) →
-    (is_rooted g r.serial ≡ true → is_rooted h r.serial ≡ true) → IsFreshRow g r →
+    (is_rooted g r ≡ true → is_rooted h r ≡ true) → IsFreshRow g r →
     IsFreshRow h (cond b (set_to settings sound r) r)
 set_row g h settings sound r true more fresh =
-    fresh_row g h r (set_to settings sound r) refl refl fresh.items more fresh
-set_row g h settings sound r false more fresh = fresh_row g h r r refl refl fresh.items more fresh
+    fresh_row g h r (set_to settings sound r) refl refl refl fresh.items more fresh
+set_row g h settings sound r false more fresh =
+    fresh_row g h r r refl refl refl fresh.items more fresh
 
 set_shown : (x : ℕ) (settings : Settings) (sound : Sound) (r : Row) (b : Bool) →
     shows_some x r ≡ true → shows_some x (cond b (set_to settings sound r) r) ≡ true
@@ -433,7 +501,7 @@ set_fresh m fresh x settings sound =
       frames = fresh.frames;
       rows = All-map (IsFreshRow h) (set_in x settings sound) g.rows
           (λ k d within. set_row g h settings sound (get_or g.rows k d)
-          (is_at x (get_or g.rows k d)) (rooted_more g h (get_or g.rows k d).serial
+          (is_at x (get_or g.rows k d)) (rooted_more g h (get_or g.rows k d)
           (λ listed. listed) (any_map (shows_some (get_or g.rows k d).serial)
           (set_in x settings sound)
           (λ r. set_shown (get_or g.rows k d).serial settings sound r (is_at x r)) g.rows))

@@ -1,13 +1,15 @@
--- Each line of a collection is one call of the sources, and isn't refused.
-use Rattle.std.proofs.Common.{◌≡◌, ◌∙◌, ℕ, ◌+◌, ◌<◌, ◌≤◌, ◌==◌, Bool, true, false, cond, not, ◌&&◌, ◌||◌}
-use Rattle.std.proofs.Common.{List, [], ◌∷◌, find, Option, Some, None, is_some, IsTrue, refl, sym, ap}
-use Rattle.std.proofs.Common.{subst, arith, add-one, leb-true, eqb-true, eq-eqb, inr, ◌⊎◌, get_or, drop, length}
-use Rattle.std.proofs.Common.{IfSome, Result, is_ok, suc, zero}
+-- Each line of a collection is one call of the sources, and is refused where the call is.
+use Rattle.std.proofs.Common.{◌≡◌, ◌∙◌, ℕ, ◌+◌, ◌<◌, ◌≤◌, ◌==◌, Bool, true, false, cond, not}
+use Rattle.std.proofs.Common.{List, [], ◌∷◌, find, Option, Some, None, is_some, IsTrue, refl, sym}
+use Rattle.std.proofs.Common.{ap, subst, arith, add-one, leb-true, eqb-true, eq-eqb, inr, ◌⊎◌}
+use Rattle.std.proofs.Common.{All, IfSome, IsErr, OnOk, Result, Err, ◌↔◌, ◌&&◌, ◌||◌, suc}
+use Rattle.std.proofs.Common.{get_or, drop, length}
 use Rattle.std.proofs.Math.Seq.{drop-cons}
 use Rattle.std.specs.Option.{option_map_or}
 use Rattle.std.specs.List.{list_all, list_any}
 use Rattle.std.proofs.lemmas.Bool.{ltb-true}
 use Rattle.mix_model.specs.declared.fault.GraphFault.{GraphFault}
+use Rattle.mix_model.specs.declared.fault.GraphFault.TheVariants.{NoMemory, NotFound, WrongKind}
 use Rattle.mix_model.specs.declared.collection.Line.{Line}
 use Rattle.mix_model.specs.declared.collection.Line.TheVariants.{Scene as SceneLine}
 use Rattle.mix_model.specs.declared.collection.Line.TheVariants.{Input as InputLine}
@@ -25,14 +27,15 @@ use Rattle.mix_model.specs.declared.place.Sound.{Sound}
 use Rattle.mix_model.specs.declared.row.Row.{Row}
 use Rattle.mix_model.specs.declared.settings.Settings.{Settings}
 use Rattle.mix_base.specs.Names.{is_name}
-use Rattle.mix_model.specs.Causes.{Cause, cause_or, first_cause, name_taken, not_kind, not_parent}
-use Rattle.mix_model.specs.Causes.{shown_early, unknown}
-use Rattle.mix_model.specs.Collections.{line_fits}
+use Rattle.mix_model.specs.Causes.{Cause, cause_or, first_cause, item_cause, name_taken, not_kind}
+use Rattle.mix_model.specs.Causes.{late_cause, not_parent, scene_cause, shown_cause, shown_early}
+use Rattle.mix_model.specs.Causes.{unknown}
+use Rattle.mix_model.specs.Fitting.{Fits, line_fits}
 use Rattle.mix_model.specs.Edits.{channel_set, group_created, input_created, input_set, item_added}
 use Rattle.mix_model.specs.Edits.{empty_graph, scene_created}
-use Rattle.mix_model.specs.Holders.{find_named, is_named, named_row_or_none}
+use Rattle.mix_model.specs.Holders.{is_named, named_row_or_none}
 use Rattle.mix_model.specs.Lines.{line_cause, line_done, line_early, line_late, lines_done}
-use Rattle.mix_model.specs.Lines.{serial_named, sound_set, unless}
+use Rattle.mix_model.specs.Lines.{not_given, not_of, row_called, serial_named, sound_set, unless}
 use Rattle.mix_model.specs.Lookups.{named_by, row_of, row_passes}
 use Rattle.mix_model.specs.Marks.{GraphModel, edited}
 use Rattle.mix_model.specs.Rows.{is_at, is_input, is_tone, serials_of}
@@ -40,28 +43,117 @@ use Rattle.mix_model.specs.Sets.{rises_above}
 use Rattle.mix_model.specs.Shape.{GraphShape}
 use Rattle.mix_model.specs.State.{GraphState}
 use Rattle.mix_model.specs.Values.{are_settings, is_between, is_place, is_sound}
+use Rattle.mix_model.proofs.CalledLemmas.{AreNamed, group_early, input_early, item_early_by}
+use Rattle.mix_model.proofs.CalledLemmas.{missing, scene_early}
 use Rattle.mix_model.proofs.SetLemmas.{and_both, and_first, and_second, found_test}
-use Rattle.mix_graph.specs.Refused.{is_missing, may_be_set}
-use Rattle.mix_studio.specs.Openings.{IsFresh, IsLeft}
-use Rattle.mix_studio.proofs.FreshLemmas.{channel_fresh, group_fresh, input_fresh, item_fresh}
-use Rattle.mix_studio.proofs.FreshLemmas.{left_by, scene_fresh, set_fresh}
+use Rattle.mix_graph.specs.Refused.{RefusedBy, is_missing, may_be_set}
+use Rattle.mix_studio.specs.Openings.{IsCause, IsFresh, IsLeft, IsRefusal}
+use Rattle.mix_studio.proofs.FreshLemmas.{all_named, channel_fresh, group_fresh, input_fresh}
+use Rattle.mix_studio.proofs.FreshLemmas.{item_fresh, left_by, scene_fresh, set_fresh}
+use Rattle.mix_studio.proofs.SceneLemmas.{left_where_ok}
+
+-- ---- why a line is refused: as its call is
+
+module _ (m : GraphModel) (fresh : IsFresh m) where
+  abbrev now : GraphState
+  now = m.present
+
+  pub scene_as_call : (name : List ℕ) →
+      line_cause now (SceneLine name) ≡ scene_cause now name (scene_created name now)
+  unfolding line_done line_early line_late
+  scene_as_call name = ap (λ early. cause_or early (line_late now (SceneLine name)))
+      (scene_early now (all_named m fresh) name)
+
+  pub input_as_call : (kind : Kind) (name : List ℕ) (settings : Settings) →
+      line_cause now (InputLine kind name settings)
+      ≡ scene_cause now name (input_created name kind settings now)
+  unfolding line_done line_early line_late
+  input_as_call kind name settings =
+      ap (λ early. cause_or early (line_late now (InputLine kind name settings)))
+      (input_early now (all_named m fresh) kind name settings)
+
+  pub group_as_call : (name parent : List ℕ) (x : ℕ) (spec : ItemSpec) →
+      x ≡ serial_named now parent →
+      line_cause now (GroupLine name parent spec.enabled spec.locked spec.place spec.blend)
+      ≡ shown_cause now name x (group_created name x spec now)
+  unfolding line_done line_early line_late
+  group_as_call name parent x spec first =
+      ap (λ early. cause_or early (line_late now
+      (GroupLine name parent spec.enabled spec.locked spec.place spec.blend)))
+      (group_early now (all_named m fresh) name parent spec.enabled spec.locked spec.place
+      spec.blend)
+      ∙ ap (λ z. shown_cause now name z (group_created name z spec now)) (sym first)
+
+  pub item_as_call : (parent child : List ℕ) (x y : ℕ) (spec : ItemSpec) →
+      x ≡ serial_named now parent → y ≡ serial_named now child →
+      line_cause now (ItemLine parent child spec.enabled spec.locked spec.place spec.blend)
+      ≡ item_cause now x y (item_added x y spec now)
+  unfolding line_done line_early line_late
+  item_as_call parent child x y spec first second =
+      ap (λ early. cause_or early (line_late now
+      (ItemLine parent child spec.enabled spec.locked spec.place spec.blend)))
+      (item_early_by now (all_named m fresh) parent child spec.enabled spec.locked spec.place
+      spec.blend)
+      ∙ ap (λ z. item_cause now z (serial_named now child)
+      (item_added z (serial_named now child) spec now)) (sym first)
+      ∙ ap (λ z. item_cause now x z (item_added x z spec now)) (sym second)
+
+-- what refuses the call is told of the line
+pub told_as : {known cause : Option GraphFault} (T : Type 0) (fault : GraphFault) →
+    known ≡ cause → RefusedBy {T = T} cause (Err fault) → IsCause known fault
+told_as T NoMemory same is = tt
+told_as T _ same is = same ∙ is
+
+-- ---- a name that has to be of a kind
+
+abbrev causes_by : Bool → Bool → Option GraphFault
+causes_by named passes =
+    first_cause ((not named, NotFound) ∷ ((not passes, WrongKind) ∷ []))
+
+module _ (g : GraphState) (are : AreNamed g) (test : Kind → Bool) (name : List ℕ) (x : ℕ)
+    (is : x ≡ serial_named g name) where
+  abbrev kind_cause : Option GraphFault
+  kind_cause = first_cause (not_given g name ∷ (not_of test g name ∷ []))
+
+  abbrev passes : Bool
+  passes = row_passes g (λ r. test r.kind) x
+
+  kind_by : kind_cause ≡ causes_by (is_named g x) passes
+  kind_by = ap (λ (b : Bool). first_cause ((b, NotFound) ∷ (not_of test g name ∷ [])))
+      (missing g are name)
+      ∙ ap (λ y. first_cause (unknown g y ∷ (not_kind test g y ∷ []))) (sym is)
+
+  pub not_found : is_named g x ≡ false → kind_cause ≡ Some NotFound
+  not_found named = kind_by ∙ ap (λ b. causes_by b passes) named
+
+  pub wrong_kind : is_named g x ≡ true → passes ≡ false → kind_cause ≡ Some WrongKind
+  wrong_kind named other =
+      kind_by ∙ ap (λ b. causes_by b passes) named ∙ ap (causes_by true) other
+
+  pub of_kind : is_named g x ≡ true → passes ≡ true → kind_cause ≡ None
+  of_kind named so = kind_by ∙ ap (λ b. causes_by b passes) named ∙ ap (causes_by true) so
+
+no_late : (early : Option GraphFault) → cause_or early None ≡ early
+no_late None = refl
+no_late (Some fault) = refl
+
+pub sound_cause : (g : GraphState) (name : List ℕ) (sound : Sound) →
+    line_cause g (SoundLine name sound)
+    ≡ first_cause (not_given g name ∷ (not_of is_tone g name ∷ []))
+unfolding line_early line_late
+sound_cause g name sound = no_late (first_cause (not_given g name ∷ (not_of is_tone g name ∷ [])))
 
 -- ---- where a line isn't refused no cause holds
 
-pub first_out : (a : Cause) (rest : List Cause) → first_cause (a ∷ rest) ≡ None → a.0 ≡ false
+first_out : (a : Cause) (rest : List Cause) → first_cause (a ∷ rest) ≡ None → a.0 ≡ false
 first_out (true, fault) rest none = cc
 first_out (false, fault) rest none = refl
-
-pub rest_out : (a : Cause) (rest : List Cause) → first_cause (a ∷ rest) ≡ None →
-    first_cause rest ≡ None
-rest_out (true, fault) rest none = cc
-rest_out (false, fault) rest none = none
 
 early_out : (early late : Option GraphFault) → cause_or early late ≡ None → early ≡ None
 early_out None late none = refl
 early_out (Some fault) late none = cc
 
-pub passed : (b : Bool) → not b ≡ false → b ≡ true
+passed : (b : Bool) → not b ≡ false → b ≡ true
 passed true out = refl
 passed false out = cc
 
@@ -69,6 +161,9 @@ passed false out = cc
 named_there : (g : GraphState) (o : Option Row) → named_row_or_none g o ≡ true → is_some o ≡ true
 named_there g None named = cc
 named_there g (Some r) named = refl
+
+pub there : (g : GraphState) (x : ℕ) → is_named g x ≡ true → is_some (row_of g x) ≡ true
+there g x named = named_there g (row_of g x) named
 
 -- ---- each line
 
@@ -97,21 +192,16 @@ item_left m new parent child x y spec fresh first second made =
     (left_by m new (item_added x y spec) fresh (item_fresh m fresh x y spec) made))
 
 -- the parent of a group is a row
-parent_there : (g : GraphState) (name parent : List ℕ) (enabled locked : Bool) (place : Place)
-    (blend : Blend) → line_cause g (GroupLine name parent enabled locked place blend) ≡ None →
-    is_some (row_of g (serial_named g parent)) ≡ true
-unfolding line_early shown_early
-parent_there g name parent enabled locked place blend none =
-    let x : ℕ = serial_named g parent in
-    named_there g (row_of g x) (passed (is_named g x)
+parent_there : (g after : GraphState) (name : List ℕ) (x : ℕ) →
+    shown_cause g name x after ≡ None → is_some (row_of g x) ≡ true
+unfolding shown_early
+parent_there g after name x none = there g x (passed (is_named g x)
     (first_out (unknown g x) (not_parent g x ∷ (name_taken g name ∷ []))
-    (early_out (shown_early g name x)
-    (line_late g (GroupLine name parent enabled locked place blend)) none)))
+    (early_out (shown_early g name x) (late_cause after) none)))
 
 pub group_left : (m new : GraphModel) (name parent : List ℕ) (x : ℕ) (spec : ItemSpec) →
     IsFresh m → x ≡ serial_named m.present parent →
-    line_cause m.present
-    (GroupLine name parent spec.enabled spec.locked spec.place spec.blend) ≡ None →
+    shown_cause m.present name x (group_created name x spec m.present) ≡ None →
     new ≡ edited (group_created name x spec) m →
     IsLeft (line_done m.present
     (GroupLine name parent spec.enabled spec.locked spec.place spec.blend)) new
@@ -119,26 +209,37 @@ unfolding line_done
 group_left m new name parent x spec fresh first none made =
     subst (λ z. IsLeft (group_created name z spec m.present) new) first
     (left_by m new (group_created name x spec) fresh (group_fresh m fresh name x spec
-    (subst (λ z. is_some (row_of m.present z) ≡ true) (sym first)
-    (parent_there m.present name parent spec.enabled spec.locked spec.place spec.blend none)))
-    made)
+    (parent_there m.present (group_created name x spec m.present) name x none)) made)
 
 -- ---- a channel
 
-channel_named : (g : GraphState) (number : ℕ) (name : List ℕ) →
-    line_cause g (ChannelLine number name) ≡ None → is_named g (serial_named g name) ≡ true
-unfolding line_early
-channel_named g number name none =
-    let x : ℕ = serial_named g name in
-    passed (is_named g x) (first_out (unknown g x) []
-    (early_out (first_cause (unknown g x ∷ [])) (line_late g (ChannelLine number name)) none))
+or_false : (b : Bool) → (b || false) ≡ b
+or_false true = refl
+or_false false = refl
 
-pub channel_there : (g : GraphState) (number : ℕ) (name : List ℕ) (x : ℕ) →
-    x ≡ serial_named g name → line_cause g (ChannelLine number name) ≡ None →
-    IsTrue (list_any (is_missing g) (named_by (Some x, None))) → false ≡ true
-channel_there g number name x is none missing =
-    sym (ap (λ b. not b || false) (ap (is_named g) is ∙ channel_named g number name none))
-    ∙ missing
+never : (b : Bool) → (b ≡ true → false ≡ true) → b ≡ false
+never true not_so = sym (not_so refl)
+never false not_so = refl
+
+-- it is refused exactly where what it is to name is missing
+module _ (g : GraphState) (are : AreNamed g) (number : ℕ) (name : List ℕ) (x : ℕ)
+    (is : x ≡ serial_named g name) where
+  abbrev lost : Bool
+  lost = list_any (is_missing g) (named_by (Some x, None))
+
+  channel_by : line_cause g (ChannelLine number name) ≡ first_cause ((lost, NotFound) ∷ [])
+  unfolding line_early line_late
+  channel_by = no_late (first_cause (not_given g name ∷ []))
+      ∙ ap (λ (b : Bool). first_cause ((b, NotFound) ∷ [])) (missing g are name
+      ∙ ap (λ y. not (is_named g y)) (sym is) ∙ sym (or_false (not (is_named g x))))
+
+  pub channel_lost : IsTrue lost → line_cause g (ChannelLine number name) ≡ Some NotFound
+  channel_lost so = channel_by ∙ ap (λ (b : Bool). first_cause ((b, NotFound) ∷ [])) so
+
+  pub channel_there : (IsTrue lost → false ≡ true) →
+      line_cause g (ChannelLine number name) ≡ None
+  channel_there not_so =
+      channel_by ∙ ap (λ (b : Bool). first_cause ((b, NotFound) ∷ [])) (never lost not_so)
 
 beside_program : (g : GraphState) (x : ℕ) (number : ℕ) (b : Bool) → (number == 0) ≡ b →
     1 ≤ number → may_be_set g number (Some x, None) ≡ true
@@ -173,33 +274,6 @@ channel_left m new number name x fresh is made =
     (channel_fresh m fresh number (Some x, None)) made)
 
 -- ---- a sound
-
-abbrev sound_causes : GraphState → ℕ → List Cause
-sound_causes g x = unknown g x ∷ (not_kind is_tone g x ∷ [])
-
-sound_named : (g : GraphState) (name : List ℕ) (sound : Sound) →
-    line_cause g (SoundLine name sound) ≡ None → is_named g (serial_named g name) ≡ true
-unfolding line_early
-sound_named g name sound none =
-    let x : ℕ = serial_named g name in
-    passed (is_named g x) (first_out (unknown g x) (not_kind is_tone g x ∷ [])
-    (early_out (first_cause (sound_causes g x)) (line_late g (SoundLine name sound)) none))
-
-sound_tone : (g : GraphState) (name : List ℕ) (sound : Sound) →
-    line_cause g (SoundLine name sound) ≡ None →
-    row_passes g (λ r. is_tone r.kind) (serial_named g name) ≡ true
-unfolding line_early
-sound_tone g name sound none =
-    let x : ℕ = serial_named g name in
-    passed (row_passes g (λ r. is_tone r.kind) x) (first_out (not_kind is_tone g x) []
-    (rest_out (unknown g x) (not_kind is_tone g x ∷ [])
-    (early_out (first_cause (sound_causes g x)) (line_late g (SoundLine name sound)) none)))
-
-pub sound_there : (g : GraphState) (name : List ℕ) (sound : Sound) (x : ℕ) →
-    x ≡ serial_named g name → line_cause g (SoundLine name sound) ≡ None →
-    IsTrue (is_missing g x) → false ≡ true
-sound_there g name sound x is none missing =
-    sym (ap not (ap (is_named g) is ∙ sound_named g name sound none)) ∙ missing
 
 -- serials rise, so a row is found by its own
 rest_found : (test : Row → Bool) (s r : Row) (rows : List Row) → test s ≡ false →
@@ -266,8 +340,8 @@ no_zero g shape (Some r) found named =
 
 -- the row of a name that isn't refused is the one of its serial
 name_case : (g : GraphState) → GraphShape g → (name : List ℕ) (row : Row) (o : Option Row) →
-    find_named g name ≡ o → is_named g (serial_named g name) ≡ true →
-    row_of g (serial_named g name) ≡ Some row → find_named g name ≡ Some row
+    row_called g name ≡ o → is_named g (serial_named g name) ≡ true →
+    row_of g (serial_named g name) ≡ Some row → row_called g name ≡ Some row
 name_case g shape name row None found named at =
     let none : serial_named g name ≡ 0 = ap (λ o. option_map_or (λ r. r.serial) o 0) found in
     let no : false ≡ true = no_zero g shape (row_of g 0) refl (sym (ap (is_named g) none) ∙ named) in
@@ -278,18 +352,6 @@ name_case g shape name row (Some r) found named at =
     let own : row_of g r.serial ≡ Some r =
     own_found 0 g.rows shape.parts.rows.serials_rise _ r found in
     found ∙ sym own ∙ ap (row_of g) (sym serial) ∙ at
-
-pub sound_row : (g : GraphState) → GraphShape g → (name : List ℕ) (sound : Sound) (x : ℕ)
-    (row : Row) → x ≡ serial_named g name → line_cause g (SoundLine name sound) ≡ None →
-    row_of g x ≡ Some row → find_named g name ≡ Some row
-sound_row g shape name sound x row is none at = name_case g shape name row (find_named g name)
-    refl (sound_named g name sound none) (ap (row_of g) (sym is) ∙ at)
-
-pub sound_is_row : (g : GraphState) (name : List ℕ) (sound : Sound) (x : ℕ) →
-    x ≡ serial_named g name → line_cause g (SoundLine name sound) ≡ None →
-    row_of g x ≡ None → false ≡ true
-sound_is_row g name sound x is none at =
-    ap (named_row_or_none g) (sym at ∙ ap (row_of g) is) ∙ sound_named g name sound none
 
 -- it is an input, and its settings are of its kind
 tone_input : (kind : Kind) → is_tone kind ≡ true → is_input kind ≡ true
@@ -311,42 +373,62 @@ found_passes p q (s ∷ rows) r found all = case (p s) refl (found_passes p q ro
     case true is more = subst (λ t. q t ≡ true) (first_found p s r rows is found) (and_first _ _ all)
     case false is more = more (rest_found p s r rows is found) (and_second _ _ all)
 
-pub sound_fits : (g : GraphState) → GraphShape g → (name : List ℕ) (sound : Sound) (x : ℕ)
-    (row : Row) (settings : Settings) → x ≡ serial_named g name →
-    line_cause g (SoundLine name sound) ≡ None → row_of g x ≡ Some row →
-    settings ≡ row.settings →
-    IsTrue (is_missing g x)
-    ⊎ IsTrue (row_passes g (λ r. is_input r.kind && are_settings r.kind settings) x)
-sound_fits g shape name sound x row settings is none at same =
-    let tone : is_tone row.kind ≡ true =
-    sym (ap (λ o. option_map_or (λ (r : Row). is_tone r.kind) o false) at)
-    ∙ ap (row_passes g (λ r. is_tone r.kind)) is ∙ sound_tone g name sound none in
-    let fit : (are_settings row.kind row.settings && is_sound row.sound) ≡ true =
-    found_passes (is_at x) (λ r. are_settings r.kind r.settings && is_sound r.sound) g.rows row at
-    shape.parts.rows.settings_fit in
-    inr (ap (λ o. option_map_or (λ (r : Row). is_input r.kind && are_settings r.kind settings) o
-    false) at
-    ∙ and_both _ _ (tone_input row.kind tone)
-    (ap (are_settings row.kind) same ∙ and_first _ _ fit))
-
 pub sound_in_range : (name : List ℕ) (sound : Sound) →
     line_fits (SoundLine name sound) ≡ true → IsTrue (is_sound sound)
 unfolding line_fits
 sound_in_range name sound fits = and_second _ _ fits
 
-pub sound_left : (m new : GraphModel) (name : List ℕ) (sound : Sound) (x : ℕ) (row : Row)
-    (settings : Settings) → IsFresh m → GraphShape m.present → x ≡ serial_named m.present name →
-    line_cause m.present (SoundLine name sound) ≡ None → row_of m.present x ≡ Some row →
-    settings ≡ row.settings → new ≡ edited (input_set x settings sound) m →
-    IsLeft (line_done m.present (SoundLine name sound)) new
-unfolding line_done
-sound_left m new name sound x row settings fresh shape is none at same made =
-    let g : GraphState = m.present in
-    subst (λ o. IsLeft (sound_set (serial_named g name) sound o g) new)
-    (sym (sound_row g shape name sound x row is none at))
-    (subst (λ z. IsLeft (input_set z row.settings sound g) new) is
-    (subst (λ t. IsLeft (input_set x t sound g) new) same
-    (left_by m new (input_set x settings sound) fresh (set_fresh m fresh x settings sound) made)))
+-- by the settings that were copied of its row
+some_row : (o : Option Row) (P : Row → Type 0) → is_some o ≡ true → IfSome o P →
+    (r : Row) × ((o ≡ Some r) × P r)
+some_row None P there has = cc
+some_row (Some r) P there has = (r, (refl, has))
+
+module _ (m : GraphModel) (fresh : IsFresh m) (shape : GraphShape m.present) (name : List ℕ)
+    (sound : Sound) (x : ℕ) (settings : Settings) (is : x ≡ serial_named m.present name)
+    (named : is_named m.present x ≡ true)
+    (tone : row_passes m.present (λ r. is_tone r.kind) x ≡ true)
+    (has : IfSome (row_of m.present x) (λ r. settings ≡ r.settings)) where
+  sound_of : (r : Row) × ((row_of m.present x ≡ Some r) × (settings ≡ r.settings))
+  sound_of = some_row (row_of m.present x) (λ r. settings ≡ r.settings)
+      (there m.present x named) has
+
+  pub sound_fits : IsTrue (is_missing m.present x)
+      ⊎ IsTrue (row_passes m.present (λ r. is_input r.kind && are_settings r.kind settings) x)
+  sound_fits =
+      let row : Row = sound_of.0 in
+      let at : row_of m.present x ≡ Some row = sound_of.1.0 in
+      let is_so : is_tone row.kind ≡ true =
+      sym (ap (λ o. option_map_or (λ (r : Row). is_tone r.kind) o false) at) ∙ tone in
+      let fit : (are_settings row.kind row.settings && is_sound row.sound) ≡ true =
+      found_passes (is_at x) (λ r. are_settings r.kind r.settings && is_sound r.sound)
+      m.present.rows row at shape.parts.rows.settings_fit in
+      inr (ap (λ o. option_map_or (λ (r : Row). is_input r.kind && are_settings r.kind settings) o
+      false) at
+      ∙ and_both _ _ (tone_input row.kind is_so)
+      (ap (are_settings row.kind) sound_of.1.1 ∙ and_first _ _ fit))
+
+  sound_row : row_called m.present name ≡ Some sound_of.0
+  sound_row = name_case m.present shape name sound_of.0 (row_called m.present name) refl
+      (sym (ap (is_named m.present) is) ∙ named)
+      (ap (row_of m.present) (sym is) ∙ sound_of.1.0)
+
+  sound_set_left : (new : GraphModel) → new ≡ edited (input_set x settings sound) m →
+      IsLeft (line_done m.present (SoundLine name sound)) new
+  unfolding line_done
+  sound_set_left new made =
+      let g : GraphState = m.present in
+      subst (λ o. IsLeft (sound_set (serial_named g name) sound o g) new) (sym sound_row)
+      (subst (λ z. IsLeft (input_set z sound_of.0.settings sound g) new) is
+      (subst (λ t. IsLeft (input_set x t sound g) new) sound_of.1.1
+      (left_by m new (input_set x settings sound) fresh (set_fresh m fresh x settings sound) made)))
+
+  pub sound_left : {A E : Type 0} (new : GraphModel) (r : Result A E) →
+      OnOk r (new ≡ edited (input_set x settings sound) m) →
+      IsErr r ↔ IsTrue (is_missing m.present x) →
+      IsLeft (line_done m.present (SoundLine name sound)) new
+  sound_left new r ok lacks = sound_set_left new
+      (left_where_ok r _ ok (λ err. sym (ap not named) ∙ lacks.0 err))
 
 -- ---- values of lines
 
@@ -373,78 +455,31 @@ item_fits parent child enabled locked place blend fits = and_second _ _ fits
 
 -- ---- line by line
 
-none_first : (g : GraphState) (cause : Option GraphFault) (more : Result GraphState GraphFault) →
-    is_ok (unless cause more) ≡ true → cause ≡ None
-none_first g None more ok = refl
-none_first g (Some fault) more ok = cc
-
-done_first : (cause : Option GraphFault) (more : Result GraphState GraphFault) →
-    is_ok (unless cause more) ≡ true → unless cause more ≡ more
-done_first None more ok = refl
-done_first (Some fault) more ok = cc
-
 module _ (lines : List Line) (g : GraphState) (i : ℕ) (line : Line) (within : i < length lines)
     (is : line ≡ get_or lines i line)
-    (done : lines_done empty_graph lines ≡ lines_done g (drop i lines))
-    (opens : is_ok (lines_done empty_graph lines) ≡ true) where
-  left_lines : drop i lines ≡ line ∷ drop (suc i) lines
-  left_lines = drop-cons lines i line within ∙ ap (λ l. l ∷ drop (suc i) lines) (sym is)
+    (done : lines_done empty_graph lines ≡ lines_done g (drop i lines)) where
+  abbrev more : Result GraphState GraphFault
+  more = lines_done (line_done g line) (drop (suc i) lines)
 
-  ok_here : is_ok (unless (line_cause g line) (lines_done (line_done g line) (drop (suc i) lines)))
-      ≡ true
-  ok_here = ap (λ ls. is_ok (lines_done g ls)) (sym left_lines) ∙ ap is_ok (sym done) ∙ opens
+  next_line : lines_done empty_graph lines ≡ unless (line_cause g line) more
+  next_line = done ∙ ap (lines_done g) (drop-cons lines i line within
+      ∙ ap (λ l. l ∷ drop (suc i) lines) (sym is))
 
-  -- the next line isn't refused
-  pub line_free : line_cause g line ≡ None
-  line_free = none_first g (line_cause g line) _ ok_here
+  -- a line that is refused is the first refusal
+  pub line_refused : (fault : GraphFault) → IsCause (line_cause g line) fault →
+      IsRefusal (lines_done empty_graph lines) fault
+  line_refused NoMemory told = tt
+  line_refused _ told = next_line ∙ ap (λ o. unless o more) told
 
-  -- and after it those that are left decide
-  pub lines_on : (h : GraphState) → h ≡ line_done g line →
+  -- and after one that isn't those that are left decide
+  pub lines_on : line_cause g line ≡ None → (h : GraphState) → h ≡ line_done g line →
       lines_done empty_graph lines ≡ lines_done h (drop (i + 1) lines)
-  lines_on h same = done ∙ ap (lines_done g) left_lines
-      ∙ done_first (line_cause g line) _ ok_here
+  lines_on free h same = next_line ∙ ap (λ o. unless o more) free
       ∙ ap (λ k. lines_done (line_done g line) (drop k lines)) (sym (add-one i))
       ∙ ap (λ s. lines_done s (drop (i + 1) lines)) (sym same)
-
--- ---- a row that is there
-
-pub some_row : (o : Option Row) (P : Row → Type 0) → is_some o ≡ true → IfSome o P →
-    (r : Row) × ((o ≡ Some r) × P r)
-some_row None P there has = cc
-some_row (Some r) P there has = (r, (refl, has))
-
-pub sound_row_there : (g : GraphState) (name : List ℕ) (sound : Sound) (x : ℕ) →
-    x ≡ serial_named g name → line_cause g (SoundLine name sound) ≡ None →
-    is_some (row_of g x) ≡ true
-sound_row_there g name sound x is none = named_there g (row_of g x)
-    (ap (is_named g) is ∙ sound_named g name sound none)
 
 -- ---- the values of each line
 
 pub fits_at : (lines : List Line) (i : ℕ) (line : Line) → i < length lines →
-    line ≡ get_or lines i line → list_all line_fits lines ≡ true → line_fits line ≡ true
-fits_at [] i line within is fits = absurd (omega (arith, within))
-fits_at (l ∷ lines) zero line within is fits = ap line_fits is ∙ and_first _ _ fits
-fits_at (l ∷ lines) (suc i) line within is fits =
-    fits_at lines i line (omega (arith, within)) is (and_second _ _ fits)
-
--- ---- a sound, by the settings that were copied of its row
-
-module _ (m : GraphModel) (shape : GraphShape m.present) (name : List ℕ) (sound : Sound) (x : ℕ)
-    (settings : Settings) (is : x ≡ serial_named m.present name)
-    (none : line_cause m.present (SoundLine name sound) ≡ None)
-    (has : IfSome (row_of m.present x) (λ r. settings ≡ r.settings)) where
-  sound_of : (r : Row) × ((row_of m.present x ≡ Some r) × (settings ≡ r.settings))
-  sound_of = some_row (row_of m.present x) (λ r. settings ≡ r.settings)
-      (sound_row_there m.present name sound x is none) has
-
-  pub sound_fits_by : IsTrue (is_missing m.present x)
-      ⊎ IsTrue (row_passes m.present (λ r. is_input r.kind && are_settings r.kind settings) x)
-  sound_fits_by = sound_fits m.present shape name sound x sound_of.0 settings is none sound_of.1.0
-      sound_of.1.1
-
-  pub sound_left_by : (new : GraphModel) → IsFresh m →
-      new ≡ edited (input_set x settings sound) m →
-      IsLeft (line_done m.present (SoundLine name sound)) new
-  sound_left_by new fresh made = sound_left m new name sound x sound_of.0 settings fresh shape is
-      none sound_of.1.0 sound_of.1.1 made
+    line ≡ get_or lines i line → All Fits lines → Fits line
+fits_at lines i line within is fits = subst Fits (sym is) (fits i line within)

@@ -1,30 +1,36 @@
 //! The lines of a collection, each a call of the sources.
-ghost use Rattle.std.specs.Prelude.{◌≡◌, IfOk, IfSome, IsTrue, None, OnOk};
-ghost use Rattle.mix_model.specs.Collections.{line_fits};
+ghost use Rattle.std.specs.Prelude.{◌≡◌, IfOk, IfSome, IsTrue, OnOk};
+ghost use Rattle.mix_model.specs.Fitting.{line_fits};
 ghost use Rattle.mix_model.specs.Lines.{line_cause, line_done};
-ghost use Rattle.mix_model.specs.Lookups.{is_row, row_of};
-ghost use Rattle.mix_studio.specs.Openings.{IsFresh, IsLeft};
+ghost use Rattle.mix_model.specs.Lookups.{is_row, row_of, row_passes};
+ghost use Rattle.mix_model.specs.Rows.{is_tone};
+ghost use Rattle.mix_studio.specs.Openings.{IsFresh, IsLeft, Tells};
 
 use crate::opening::serial_named;
 use mix_base::{Name, NoMemory, Serial};
 use mix_graph::Graph;
-use mix_model::{ItemSpec, Kind, Line, Settings, Sound};
+use mix_model::{GraphFault, ItemSpec, Kind, Line, Settings, Sound};
 use std::alloc::Global;
 
-/// Does a line that isn't refused.
-pub fn add_line(alloc: Global, graph: &mut Graph, line: &Line) -> Result<(), NoMemory>
+/// Does a line, or tells why it is refused.
+pub fn add_line(alloc: Global, graph: &mut Graph, line: &Line) -> Result<(), GraphFault>
     requires fresh { IsFresh graph.old }
     requires fits { IsTrue (line_fits line.now) }
-    requires free { line_cause graph.old.present line.now ≡ None }
+    ensures refused { Tells (line_cause graph.old.present line.now) result }
     ensures left { OnOk result (IsLeft (line_done graph.old.present line.now) graph.new) }
 {
     match line {
-        Line::Scene { name } => add_scene(graph, name),
+        Line::Scene { name } => add_scene(graph, name.share()),
         Line::Input {
             kind,
             name,
             settings,
-        } => add_input(graph, *kind, name, settings.copy()?),
+        } => {
+            let Ok(settings) = settings.copy() else {
+                return Err(GraphFault::NoMemory);
+            };
+            add_input(graph, *kind, name.share(), settings)
+        }
         Line::Group {
             name,
             parent,
@@ -39,7 +45,7 @@ pub fn add_line(alloc: Global, graph: &mut Graph, line: &Line) -> Result<(), NoM
                 place: *place,
                 blend: *blend,
             };
-            add_group(alloc, graph, name, parent, spec)
+            add_group(alloc, graph, name.share(), parent, spec)
         }
         Line::Item {
             parent,
@@ -62,30 +68,36 @@ pub fn add_line(alloc: Global, graph: &mut Graph, line: &Line) -> Result<(), NoM
     }
 }
 
-/// Adds a scene. It isn't refused, so that memory alone may be wanting.
-fn add_scene(graph: &mut Graph, name: &Name) -> Result<(), NoMemory>
+/// Adds a scene.
+fn add_scene(graph: &mut Graph, name: Name) -> Result<(), GraphFault>
     requires fresh { IsFresh graph.old }
-    ensures left { OnOk result
-        (IsLeft (line_done graph.old.present (Line.Scene name.now)) graph.new) }
+    ensures refused { Tells (line_cause graph.old.present (Line.Scene name)) result }
+    ensures left { OnOk result (IsLeft (line_done graph.old.present (Line.Scene name)) graph.new) }
 {
     graph.has_shape();
-    match graph.create_scene(name.share()) {
+    match graph.create_scene(name) {
         Ok(_) => Ok(()),
-        Err(_) => Err(NoMemory),
+        Err(fault) => Err(fault),
     }
 }
 
 /// Adds an input.
-fn add_input(graph: &mut Graph, kind: Kind, name: &Name, settings: Settings) -> Result<(), NoMemory>
+fn add_input(
+    graph: &mut Graph,
+    kind: Kind,
+    name: Name,
+    settings: Settings,
+) -> Result<(), GraphFault>
     requires fresh { IsFresh graph.old }
-    requires fits { IsTrue (line_fits (Line.Input kind name.now settings)) }
+    requires fits { IsTrue (line_fits (Line.Input kind name settings)) }
+    ensures refused { Tells (line_cause graph.old.present (Line.Input kind name settings)) result }
     ensures left { OnOk result
-        (IsLeft (line_done graph.old.present (Line.Input kind name.now settings)) graph.new) }
+        (IsLeft (line_done graph.old.present (Line.Input kind name settings)) graph.new) }
 {
     graph.has_shape();
-    match graph.create_input(name.share(), kind, settings, None) {
+    match graph.create_input(name, kind, settings, None) {
         Ok(_) => Ok(()),
-        Err(_) => Err(NoMemory),
+        Err(fault) => Err(fault),
     }
 }
 
@@ -93,23 +105,26 @@ fn add_input(graph: &mut Graph, kind: Kind, name: &Name, settings: Settings) -> 
 fn add_group(
     alloc: Global,
     graph: &mut Graph,
-    name: &Name,
+    name: Name,
     parent: &Name,
     spec: ItemSpec,
-) -> Result<(), NoMemory>
+) -> Result<(), GraphFault>
     requires fresh { IsFresh graph.old }
-    requires fits { IsTrue (line_fits (Line.Group name.now parent.now spec.enabled spec.locked
+    requires fits { IsTrue (line_fits (Line.Group name parent.now spec.enabled spec.locked
         spec.place spec.blend)) }
-    requires free { line_cause graph.old.present (Line.Group name.now parent.now spec.enabled
-        spec.locked spec.place spec.blend) ≡ None }
-    ensures left { OnOk result (IsLeft (line_done graph.old.present (Line.Group name.now parent.now
+    ensures refused { Tells (line_cause graph.old.present (Line.Group name parent.now
+        spec.enabled spec.locked spec.place spec.blend)) result }
+    ensures left { OnOk result (IsLeft (line_done graph.old.present (Line.Group name parent.now
         spec.enabled spec.locked spec.place spec.blend)) graph.new) }
 {
-    let parent = serial_named(alloc, graph, parent)?;
+    let Ok(parent) = serial_named(alloc, graph, parent) else {
+        drop(name);
+        return Err(GraphFault::NoMemory);
+    };
     graph.has_shape();
-    match graph.create_group(name.share(), parent, spec) {
+    match graph.create_group(name, parent, spec) {
         Ok(_) => Ok(()),
-        Err(_) => Err(NoMemory),
+        Err(fault) => Err(fault),
     }
 }
 
@@ -120,35 +135,61 @@ fn add_item(
     parent: &Name,
     child: &Name,
     spec: ItemSpec,
-) -> Result<(), NoMemory>
+) -> Result<(), GraphFault>
     requires fresh { IsFresh graph.old }
     requires fits { IsTrue (line_fits (Line.Item parent.now child.now spec.enabled spec.locked
         spec.place spec.blend)) }
+    ensures refused { Tells (line_cause graph.old.present (Line.Item parent.now child.now
+        spec.enabled spec.locked spec.place spec.blend)) result }
     ensures left { OnOk result (IsLeft (line_done graph.old.present (Line.Item parent.now child.now
         spec.enabled spec.locked spec.place spec.blend)) graph.new) }
 {
-    let parent = serial_named(alloc, graph, parent)?;
-    let child = serial_named(alloc, graph, child)?;
+    let Ok(parent) = serial_named(alloc, graph, parent) else {
+        return Err(GraphFault::NoMemory);
+    };
+    let Ok(child) = serial_named(alloc, graph, child) else {
+        return Err(GraphFault::NoMemory);
+    };
     graph.has_shape();
     match graph.add_item(parent, child, spec) {
         Ok(_) => Ok(()),
-        Err(_) => Err(NoMemory),
+        Err(fault) => Err(fault),
     }
 }
 
 /// Sets the sound of a tone.
-fn set_sound(alloc: Global, graph: &mut Graph, name: &Name, sound: Sound) -> Result<(), NoMemory>
+fn set_sound(alloc: Global, graph: &mut Graph, name: &Name, sound: Sound) -> Result<(), GraphFault>
     requires fresh { IsFresh graph.old }
     requires fits { IsTrue (line_fits (Line.Sound name.now sound)) }
-    requires free { line_cause graph.old.present (Line.Sound name.now sound) ≡ None }
+    ensures refused { Tells (line_cause graph.old.present (Line.Sound name.now sound)) result }
     ensures left { OnOk result
         (IsLeft (line_done graph.old.present (Line.Sound name.now sound)) graph.new) }
 {
-    let serial = serial_named(alloc, graph, name)?;
-    let settings = settings_of(graph, serial)?;
+    let Ok(serial) = serial_named(alloc, graph, name) else {
+        return Err(GraphFault::NoMemory);
+    };
+    if !graph.named(serial) {
+        return Err(GraphFault::NotFound);
+    }
+    if !is_tone_row(graph, serial) {
+        return Err(GraphFault::WrongKind);
+    }
+    let Ok(settings) = settings_of(graph, serial) else {
+        return Err(GraphFault::NoMemory);
+    };
     graph.has_shape();
     let _ = graph.set_input(serial, settings, sound);
     Ok(())
+}
+
+/// Whether the row of this serial is a tone.
+fn is_tone_row(graph: &Graph, serial: Serial) -> bool
+    ensures value { result ≡ row_passes graph.now.present (λ r. is_tone r.kind) serial }
+{
+    match graph.row(serial) {
+        None => false,
+        Some(row) => matches!(row.kind, Kind::Tone),
+    }
 }
 
 /// The settings of a row.
@@ -164,14 +205,23 @@ fn settings_of(graph: &Graph, serial: Serial) -> Result<Settings, NoMemory>
 }
 
 /// Sets what one of the channels 1 to 63 names.
-fn set_channel(alloc: Global, graph: &mut Graph, channel: u32, name: &Name) -> Result<(), NoMemory>
+fn set_channel(
+    alloc: Global,
+    graph: &mut Graph,
+    channel: u32,
+    name: &Name,
+) -> Result<(), GraphFault>
     requires fresh { IsFresh graph.old }
     requires fits { IsTrue (line_fits (Line.Channel channel name.now)) }
-    requires free { line_cause graph.old.present (Line.Channel channel name.now) ≡ None }
+    ensures refused { Tells (line_cause graph.old.present (Line.Channel channel name.now)) result }
     ensures left { OnOk result
         (IsLeft (line_done graph.old.present (Line.Channel channel name.now)) graph.new) }
 {
-    let serial = serial_named(alloc, graph, name)?;
-    let _ = graph.set_channel(channel, Some(serial), None);
-    Ok(())
+    let Ok(serial) = serial_named(alloc, graph, name) else {
+        return Err(GraphFault::NoMemory);
+    };
+    match graph.set_channel(channel, Some(serial), None) {
+        Ok(()) => Ok(()),
+        Err(_) => Err(GraphFault::NotFound),
+    }
 }

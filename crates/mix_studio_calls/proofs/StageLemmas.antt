@@ -2,7 +2,9 @@
 use Rattle.std.proofs.Common.{◌≡◌, ℕ, refl, true, false, List, [], ◌∷◌, Some, None}
 use Rattle.mix_model.specs.declared.collection.Collection.{Collection}
 use Rattle.mix_model.specs.declared.collection.Line.{Line}
+use Rattle.std.proofs.lemmas.List.Sums.{AllPass-from_list_all}
 use Rattle.mix_model.specs.Collections.{IsCollection}
+use Rattle.mix_model.specs.Fitting.{line_fits}
 use Rattle.mix_model.proofs.Rules.{every_rule}
 use Rattle.mix_studio_calls.specs.Stage.{stage_lines}
 use Rattle.std.specs.Str.{is_utf8, chars}
@@ -26,15 +28,18 @@ named_stage_opens : IsCollection (stage (65 ∷ []) (66 ∷ [])
     (stage_lines (65 ∷ []) (66 ∷ []) (71 ∷ []) (67 ∷ []) (84 ∷ [])))
 unfolding every_rule is_utf8 chars encode
 named_stage_opens = record {
-  canvas = refl;
-  rate = refl;
-  format = refl;
-  secret = refl;
-  lines = refl;
-  channels = refl;
-  duration = refl;
-  preview = refl;
-  program = refl;
+  fits = record {
+    canvas = refl;
+    rate = refl;
+    format = refl;
+    secret = refl;
+    lines = AllPass-from_list_all line_fits
+        (stage_lines (65 ∷ []) (66 ∷ []) (71 ∷ []) (67 ∷ []) (84 ∷ [])) refl;
+    channels = refl;
+    duration = refl;
+    preview = refl;
+    program = refl;
+  };
   opening = refl;
 }
 

@@ -1,6 +1,6 @@
 //! An engine with one scene, and what its actions are answered.
 ghost use Rattle.std.specs.Prelude.{◌≤◌};
-ghost use Rattle.mix_engine.specs.Openings.{IsFitting};
+ghost use Rattle.mix_model.specs.Fitting.{IsFitting};
 
 use crate::tests::have::have;
 use mix_base::{Bytes32, ConnId, Limits, ListOf, Name, PassNo, Rate, Text};
@@ -19,7 +19,7 @@ pub const ARRIVE: Action = Action::Arrive {
 };
 
 /// A collection with the scene A on program.
-#[tactic(auto, unfolding(mix_model::specs::Values::is_canvas, mix_model::specs::Values::is_format, mix_model::specs::Collections::line_fits))]
+#[tactic(auto, unfolding(mix_model::specs::Values::is_canvas, mix_model::specs::Values::is_format, mix_model::specs::Fitting::line_fits))]
 fn one_scene(rt: &impl Abort, alloc: Global) -> Collection
     ensures { IsFitting result }
 {

@@ -23,7 +23,7 @@ fn name() -> Result<Name, Fail> {
 }
 
 /// An engine with the first collection, whose history may have so many actions.
-#[tactic(auto, unfolding(mix_model::specs::Values::is_canvas, mix_model::specs::Values::is_format, mix_model::specs::Collections::line_fits))]
+#[tactic(auto, unfolding(mix_model::specs::Values::is_canvas, mix_model::specs::Values::is_format, mix_model::specs::Fitting::line_fits))]
 fn engine(alloc: Global, turns: u64) -> Result<Engine, Fail>
     requires { turns ≤ 16777216 }
 {

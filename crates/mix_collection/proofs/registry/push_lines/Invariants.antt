@@ -1,8 +1,8 @@
 use Rattle.std.proofs.Common.{◌≡◌, All, option_map}
+use Rattle.mix_model.specs.Fitting.{Fits}
 use Rattle.mix_outside.specs.Lines.{Whole}
-use Rattle.mix_collection.specs.Fitting.{Fits, SetsNoChannel}
 use Rattle.mix_collection.specs.Collections.{lines_in}
-use Rattle.mix_collection.specs.Read.{behind_lines}
+use Rattle.mix_collection.specs.Read.{SetsNoChannel, behind_lines}
 use Rattle.mix_collection.specs.Within.{lines_left}
 use Rattle.mix_collection.proofs.registry.push_lines.Given as goal
 

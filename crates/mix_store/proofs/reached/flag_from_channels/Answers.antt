@@ -1,5 +1,5 @@
 -- one channel more; and at the end no channel is left
-use Rattle.std.proofs.Common.{◌≡◌, sym, ◌∙◌, ap, flat_map, drop, []}
+use Rattle.std.proofs.Common.{sym, ◌∙◌, ap, flat_map, drop}
 use Rattle.std.proofs.lemmas.List.{drop_all}
 use Rattle.mix_model.specs.Lookups.{named_by}
 use Rattle.mix_store.proofs.RootLemmas.{channel_step, reached_none}
@@ -13,8 +13,7 @@ loop-channel-preserved c = channel_step c.args.rows.now c.args.channels.now
 
 pub returns : goal.returns
 returns c =
-    let none : drop c.loop-channel.channel-index c.args.channels.now ≡ [] =
-    drop_all c.loop-channel.channel-index c.args.channels.now c.loop-channel-test.false in
+    let none = drop_all c.loop-channel.channel-index c.args.channels.now c.loop-channel-test.false in
     sym (reached_none c.args.rows.now
     (flat_map named_by (drop c.loop-channel.channel-index c.args.channels.now))
     c.loop-channel.flags (ap (flat_map named_by) none)) ∙ c.loop-channel.invariant

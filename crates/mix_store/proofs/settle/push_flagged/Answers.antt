@@ -9,8 +9,8 @@ pub push_reserved-requires : goal.push_reserved-requires
 push_reserved-requires c =
     let below : length c.loop-index.dying.items < vec_capacity c.args.dying.now =
     room_for_one c.args.rows.now c.args.flags.now c.loop-index.index
-    c.index-rows-index.result c.args.dying.now.items c.loop-index.dying.items _
-    c.requires.each c.loop-index-test.true c.index-rows-index.is c.if-flags-index.true
+    c.index-rows-index.result c.requires.each c.loop-index-test.true c.index-rows-index.is
+    c.if-flags-index.true c.args.dying.now.items c.loop-index.dying.items _
     c.loop-index.invariant.all c.requires.room in
     rw c.loop-index.invariant.room (grind (arith, common_steps, below))
 
@@ -22,8 +22,8 @@ loop-index-preserved c = elim c.if-flags-index.branch [
     ← w.index-rows-index.is,
   ) (record {
     all = one_more c.args.rows.now c.args.flags.now c.loop-index.index w.index-rows-index.result
-        c.loop-index.dying.items _ c.requires.each c.loop-index-test.true
-        w.index-rows-index.is w.if-flags-index.true c.loop-index.invariant.all;
+        c.requires.each c.loop-index-test.true w.index-rows-index.is w.if-flags-index.true
+        c.loop-index.dying.items _ c.loop-index.invariant.all;
     room = w.push_reserved.ensures.capacity ∙ c.loop-index.invariant.room;
   })
   | else-flags-index w ↦ rw w.dying-is (record {

@@ -1,6 +1,5 @@
 use Rattle.std.proofs.Common.{◌≡◌, ◌∙◌, ◌+◌, List, [], ◌∷◌, ◌++◌, ap, arith, length, subst, sym, true}
 use Rattle.std.proofs.lemmas.List.{length-append}
-use Rattle.mix_model.specs.declared.action.Action.{Action}
 use Rattle.mix_model.specs.declared.action.Entry.{Entry}
 use Rattle.mix_engine.specs.contracts.engine.Engine.{the_view}
 use Rattle.mix_engine.specs.Answers.{Agrees, Replies, answer_to, due_after, state_after}
@@ -14,11 +13,8 @@ use Rattle.mix_engine.proofs.engine.Engine.act.Goals.{After-push_reserved}
 -- the journal has one entry more
 items : (c : After-push_reserved) → c.push_reserved.new.self.items
     ≡ c.self.inside.journal.items ++ record { from = c.args.from; action = c.args.action } ∷ []
-items c = c.push_reserved.ensures.items
-    ∙ ap (λ (a : Action). c.reserve.new.self.items ++ record { from = c.args.from; action = a } ∷ [])
-    c.shelved-action.ensures.value
-    ∙ ap (λ (l : List Entry). l ++ record { from = c.args.from; action = c.args.action } ∷ [])
-    c.in-Ok.ensures.items
+items c = rw (c.shelved-action.ensures.value, c.in-Ok.ensures.items)
+    at c.push_reserved.ensures.items
 
 -- that keeps what ties the engine to its journal
 pub invariant_of-self-2 : goal.invariant_of-self-2

@@ -1,12 +1,20 @@
-use Rattle.std.proofs.Common.{◌≡◌, ◌∙◌, false, length, nat_lt, subst, true, arith}
+use Rattle.std.proofs.Common.{◌≡◌, ◌∙◌, ◌+◌, [], ◌∷◌, arith, false, length, nat_lt, refl}
+use Rattle.std.proofs.Common.{subst, true}
 use Rattle.std.proofs.lemmas.Bool.{lt-ltb, le-ltb}
+use Rattle.std.proofs.lemmas.List.Elements.{All-nil, All-push}
+use Rattle.mix_events.specs.Sayings.{IsSayable}
 use Rattle.mix_session.specs.SessionState.{hello}
 use Rattle.mix_model.specs.declared.action.Action.TheVariants.{Arrive}
-use Rattle.mix_engine.specs.Mixings.{Mixed}
+use Rattle.mix_engine.specs.contracts.mixing.Mixing.{the_view}
+use Rattle.mix_engine.specs.declared.heading.Heading.TheVariants.{Told}
+use Rattle.mix_engine.specs.Connections.{Joins}
+use Rattle.mix_engine.specs.Mixings.{Mixed, mixed_of}
+use Rattle.mix_engine.specs.Outcomes.{joins}
 use Rattle.mix_engine.specs.Step.{outcome}
-use Rattle.mix_engine.proofs.Shapes.{sound}
-use Rattle.mix_engine.proofs.Stepping.{has_place, joined_left, joins_steps, of_seen, unknown}
+use Rattle.mix_engine.proofs.Shapes.{LeftBy, sound}
+use Rattle.mix_engine.proofs.Stepping.{greeted, has_place, of_seen, quietly_left, tells, unknown}
 use Rattle.mix_engine.proofs.mixing.Mixing.arrive.Goals as goal
+use Rattle.mix_engine.proofs.mixing.Mixing.arrive.Goals.{After-end}
 
 -- there is no room for it
 pub returns-then-len-ge-MOST_CONNS : goal.returns-then-len-ge-MOST_CONNS
@@ -20,22 +28,29 @@ pub join-requires : goal.join-requires
 join-requires c = record { is_new = unknown c.self.invariant }
 
 -- it is there
+left : (c : After-end) → LeftBy (the_view c.self.inside) (joins (the_view c.self.inside).mixer
+    c.args.challenge.now (hello c.self.inside.audience.secret c.args.challenge.now))
+    (mixed_of c.self.inside.studio.present c.self.inside.notes c.end.new.self
+    (c.self.inside.next_conn + 1))
+left c = quietly_left c.self.invariant (Joins c.self.inside.next_conn c.args.challenge.now)
+    (Told c.self.inside.next_conn)
+    (hello c.self.inside.audience.secret c.args.challenge.now ∷ []) (c.self.inside.next_conn + 1)
+    c.end.new.self (refl, refl, has_place c.self.invariant true (lt-ltb _ _ (omega arith))) tt tt
+    (All-push IsSayable [] (hello c.self.inside.audience.secret c.args.challenge.now)
+    (All-nil IsSayable) tt)
+    (c.end.ensures.secret ∙ c.in-Ok.ensures.secret)
+    (rw c.in-Ok.ensures.listeners at c.end.ensures.listeners)
+
 pub invariant_of-self-2 : goal.invariant_of-self-2
-invariant_of-self-2 c = sound c.self.invariant (joined_left c.self.invariant c.args.challenge.now
-    (hello c.self.inside.audience.secret c.args.challenge.now) _ c.end.new.self
-    (lt-ltb _ _ (omega arith)) (c.end.ensures.secret ∙ c.in-Ok.ensures.secret)
-    c.in-Ok.ensures.listeners c.end.ensures.listeners)
+invariant_of-self-2 c = sound c.self.invariant (left (goal.at.invariant_of-self-2 c).After-end)
 
 -- and is told Hello
 pub returns : goal.returns
 returns c = record {
   steps = of_seen (λ m. outcome m.mixer (Arrive c.args.challenge.now)) c.self.view_is
       (rw (has_place c.self.invariant true (lt-ltb _ _ (omega arith)))
-      (joins_steps c.self.invariant c.args.challenge.now (joined_left c.self.invariant
-      c.args.challenge.now (hello c.self.inside.audience.secret c.args.challenge.now) _
-      c.end.new.self (lt-ltb _ _ (omega arith)) (c.end.ensures.secret ∙ c.in-Ok.ensures.secret)
-      c.in-Ok.ensures.listeners c.end.ensures.listeners) c.saying.result c.in_ok-said.said.items
-      c.in-Ok.hello c.saying.ensures.heading c.in_ok-said.ensures.items
-      (c.saying.ensures.said ∙ c.push_reserved.ensures.items) c.in-Ok.ensures.hello
-      c.saying.ensures.shot c.saying.ensures.voices));
+      (tells c.self.invariant (left (goal.at.returns c).After-end) c.self.inside.next_conn
+      c.saying.result c.push_reserved.new.self.items tt refl refl c.saying.ensures.says
+      (greeted c.self.invariant c.args.challenge.now c.in_ok-said.ensures.items
+      c.push_reserved.ensures.items c.in-Ok.ensures.hello)));
 }

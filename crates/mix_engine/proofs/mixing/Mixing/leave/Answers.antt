@@ -1,7 +1,5 @@
-use Rattle.std.proofs.Common.{Ok, subst}
 use Rattle.mix_engine.specs.declared.heading.Heading.TheVariants as heading
 use Rattle.mix_engine.specs.Leaving.{goes}
-use Rattle.mix_engine.specs.StepAnswers.{StepsWithout}
 use Rattle.mix_engine.proofs.Stepping.{open_then}
 use Rattle.mix_engine.proofs.mixing.Mixing.leave.Goals as goal
 
@@ -10,6 +8,5 @@ pub returns-in-None : goal.returns-in-None
 returns-in-None c = record {
   steps = open_then c.has_shape.ensures.shape c.args.conn c.depart.result c.depart.new.self
       (λ m. goes m.mixer c.args.conn (heading.Left c.args.conn))
-      (subst (λ o. StepsWithout (Ok o) c.args.self.now c.turn_away.new.self c.args.conn)
-      c.in-None.is c.in_ok-answer.ensures.steps) c.depart.ensures.steps;
+      (rw c.in-None.is at c.in_ok-answer.ensures.steps) c.depart.ensures.steps;
 }

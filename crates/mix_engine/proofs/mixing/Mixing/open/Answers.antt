@@ -1,22 +1,23 @@
-use Rattle.std.proofs.Common.{◌∙◌, sym}
-use Rattle.mix_engine.proofs.OpeningLemmas.{is_collection, notes_none, opened_numbers, start_is}
+use Rattle.std.proofs.Common.{◌∙◌, Err, Ok, sym}
+use Rattle.mix_engine.proofs.Openers.{is_refusal, opens_as, shut_preview, start_is}
 use Rattle.mix_engine.proofs.mixing.Mixing.open.Goals as goal
 
--- it can be opened
-pub open-requires-clause-opens : goal.open-requires-clause-opens
-open-requires-clause-opens c = is_collection c.args.setup.now.collection c.requires.fits
-    (sym c.in_ok-can_open.ensures.value ∙ c.if-not-branch.false)
+-- a preview is asked for
+pub returns-then-is_some-clause-opens : goal.returns-then-is_some-clause-opens
+returns-then-is_some-clause-opens c =
+    shut_preview c.args.setup.now.collection (sym c.if-is_some.ensures)
 
--- with the mixer of its collection
-pub returns-clause-value : goal.returns-clause-value
-returns-clause-value c = start_is c.args.setup.now.collection c.in_ok-studio.studio.present _
-    c.new-3.result c.in_ok-studio.ensures.value
-    (notes_none c.from_vec.result c.from_vec-2.result
-    (c.from_vec.ensures.value ∙ c.new.ensures.items)
-    (c.from_vec-2.ensures.value ∙ c.new-2.ensures.items))
-    (c.new-3.ensures.secret ∙ c.in-Ok.ensures.value) c.new-3.ensures.listeners
+-- nothing is refused
+pub returns-in_ok-over-in-Ok-clause-opens : goal.returns-in_ok-over-in-Ok-clause-opens
+returns-in_ok-over-in-Ok-clause-opens c = opens_as c.args.setup.now.collection
+    (Ok c.in-Ok.studio.present) (sym c.if-is_some.ensures) c.in-Ok.ensures.value
 
-pub returns-clause-numbers : goal.returns-clause-numbers
-returns-clause-numbers c = opened_numbers c.in_ok-studio.studio.present _ c.new-3.result
-    (c.in_ok-can_open.ensures.low c.if-not-branch.false c.in_ok-studio.studio.present
-    c.in_ok-studio.ensures.value)
+pub returns-in_ok-over-in-Ok-clause-value : goal.returns-in_ok-over-in-Ok-clause-value
+returns-in_ok-over-in-Ok-clause-value c = c.in_ok-over-in-Ok.ensures.value
+    ∙ start_is c.args.setup.now.collection c.in-Ok.studio.present c.in-Ok.ensures.value
+
+-- a line is, or a scene at its end
+pub returns-in_default-clause-opens : goal.returns-in_default-clause-opens
+returns-in_default-clause-opens c = opens_as c.args.setup.now.collection (Err c.in-Err.fault)
+    (sym c.if-is_some.ensures)
+    (is_refusal _ _ c.in_default.not-NoMemory c.in-Err.ensures.refused)

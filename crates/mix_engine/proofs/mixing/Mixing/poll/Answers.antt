@@ -1,7 +1,6 @@
-use Rattle.std.proofs.Common.{[], Ok, subst}
+use Rattle.std.proofs.Common.{[]}
 use Rattle.mix_engine.specs.declared.heading.Heading.TheVariants as heading
 use Rattle.mix_engine.specs.Outcomes.{only}
-use Rattle.mix_engine.specs.StepAnswers.{StepsWithout}
 use Rattle.mix_engine.proofs.Stepping.{open_then}
 use Rattle.mix_engine.proofs.mixing.Mixing.poll.Goals as goal
 
@@ -10,6 +9,5 @@ pub returns-in-None : goal.returns-in-None
 returns-in-None c = record {
   steps = open_then c.has_shape.ensures.shape c.args.conn c.tell_waiting.result
       c.tell_waiting.new.self (λ m. only m.mixer (heading.Told c.args.conn) [])
-      (subst (λ o. StepsWithout (Ok o) c.args.self.now c.turn_away.new.self c.args.conn)
-      c.in-None.is c.in_ok-answer.ensures.steps) c.tell_waiting.ensures.steps;
+      (rw c.in-None.is at c.in_ok-answer.ensures.steps) c.tell_waiting.ensures.steps;
 }

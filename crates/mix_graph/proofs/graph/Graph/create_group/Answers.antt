@@ -1,7 +1,6 @@
 -- there is one row more, and the sources are settled
-use Rattle.std.proofs.Common.{◌≡◌, ◌+◌, ap, length, arith, subst, Err, ◌∙◌}
+use Rattle.std.proofs.Common.{◌+◌, ap, sym, subst, Err, ◌∙◌}
 use Rattle.mix_model.specs.Marks.{edited, GraphModel}
-use Rattle.mix_store.specs.Settling.{Tallied}
 use Rattle.mix_store.proofs.CheckLemmas.{group_count, shown_group}
 use Rattle.mix_model.specs.Edits.{group_created, item_added}
 use Rattle.mix_shape.proofs.BareLemmas.{group_lets_live}
@@ -18,31 +17,25 @@ use Rattle.mix_graph.proofs.graph.Graph.create_group.Goals as goal
 
 pub settle_living-requires : goal.settle_living-requires
 unfolding group_created item_added
-settle_living-requires c =
-    let more : length c.create_group.new.self.rows ≡ length c.self.inside.sources.rows + 1 =
-    rw c.in-Ok-create_group.ensures.ok (group_count c.args.name c.args.parent c.args.spec
-    c.self.inside.sources) in
-    let grown : c.grow.new.self.count ≡ c.self.inside.tally.count + 1 =
-    ap (λ (t : Tallied). t.count) c.in-Ok.ensures.ok in
-    let each : c.self.inside.tally.count ≡ length c.self.inside.sources.rows =
-    c.self.invariant.told.count in
-    record {
-      count = omega (arith, more, grown, each);
-      edited = rw c.in-Ok-create_group.ensures.ok (group_created_shape c.args.name c.args.parent c.args.spec c.self.inside.sources
-          c.self.invariant.shape c.requires.place
-          (rw (← shown_group c.args.name c.args.parent c.args.spec c.self.inside.sources)
-          (rw c.bytes.ensures.value at (c.in_default.ensures.refused NoSettings c.args.spec))));
-      begun = rw (c.in-Ok.ensures.ok, c.in-Ok-create_group.ensures.ok) c.self.invariant.begun;
-      living = rw c.in-Ok-create_group.ensures.ok (group_lets_live c.args.name c.args.parent
-          c.args.spec c.self.inside.sources c.self.invariant.shape c.in_default.ensures.there);
-    }
+settle_living-requires c = record {
+  count = rw (c.in-Ok.ensures.ok, c.in-Ok-create_group.ensures.ok)
+      (ap (λ n. n + 1) c.self.invariant.told.count
+      ∙ sym (group_count c.args.name c.args.parent c.args.spec c.self.inside.sources));
+  edited = rw c.in-Ok-create_group.ensures.ok (group_created_shape c.args.name c.args.parent c.args.spec c.self.inside.sources
+      c.self.invariant.shape c.requires.place
+      (rw (← shown_group c.args.name c.args.parent c.args.spec c.self.inside.sources)
+      (rw c.bytes.ensures.value at (c.in_default.ensures.refused NoSettings c.args.spec))));
+  begun = rw (c.in-Ok.ensures.ok, c.in-Ok-create_group.ensures.ok) c.self.invariant.begun;
+  living = rw c.in-Ok-create_group.ensures.ok (group_lets_live c.args.name c.args.parent
+      c.args.spec c.self.inside.sources c.self.invariant.shape c.in_default.ensures.there);
+}
 
 pub returns-in-Ok-create_group-clause-ok : goal.returns-in-Ok-create_group-clause-ok
 unfolding edited
 returns-in-Ok-create_group-clause-ok c = rw (
   c.settle_living.ensures.state,
   c.settle_living.ensures.begun,
-  ap (λ (t : Tallied). t.begun) c.in-Ok.ensures.ok,
+  c.in-Ok.ensures.ok,
   ← c.self.view_is,
   c.in-Ok-create_group.ensures.ok,
 )

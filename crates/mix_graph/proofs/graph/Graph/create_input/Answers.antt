@@ -1,7 +1,6 @@
 -- there is one row more, and the sources are settled
-use Rattle.std.proofs.Common.{◌≡◌, ◌+◌, ap, length, arith, Option, subst, Err}
+use Rattle.std.proofs.Common.{◌+◌, ap, sym, ◌∙◌, Option, subst, Err}
 use Rattle.mix_model.specs.Marks.{edited, GraphModel}
-use Rattle.mix_store.specs.Settling.{Tallied}
 use Rattle.mix_store.proofs.CheckLemmas.{input_count}
 use Rattle.mix_shape.proofs.BareLemmas.{input_lets_live}
 use Rattle.mix_shape.proofs.CreatedShape.{input_made_shape, made_clock, wanted_place}
@@ -13,35 +12,30 @@ use Rattle.mix_shape.specs.Created.{input_cause, input_made}
 use Rattle.mix_graph.proofs.graph.Graph.create_input.Goals as goal
 
 pub settle_living-requires : goal.settle_living-requires
-settle_living-requires c =
-    let more : length c.create_input.new.self.rows ≡ length c.self.inside.sources.rows + 1 =
-    rw c.in-Ok-create_input.ensures.ok (input_count c.args.name c.args.kind c.args.settings c.args.parent
-    c.self.inside.sources) in
-    let grown : c.grow.new.self.count ≡ c.self.inside.tally.count + 1 =
-    ap (λ (t : Tallied). t.count) c.in-Ok.ensures.ok in
-    let each : c.self.inside.tally.count ≡ length c.self.inside.sources.rows =
-    c.self.invariant.told.count in
-    record {
-      count = omega (arith, more, grown, each);
-      edited = rw c.in-Ok-create_input.ensures.ok (input_made_shape c.args.name c.args.kind
-          c.args.settings c.args.parent c.self.inside.sources c.self.invariant.shape
-          c.requires.input (wanted_place c.args.parent c.requires.place)
-          (rw c.bytes.ensures.value at (c.in_default.ensures.refused c.args.settings)));
-      begun = rw (
-        c.in-Ok.ensures.ok,
-        c.in-Ok-create_input.ensures.ok,
-        made_clock c.args.name c.args.kind c.args.settings c.args.parent c.self.inside.sources,
-      ) c.self.invariant.begun;
-      living = rw c.in-Ok-create_input.ensures.ok (input_lets_live c.args.name c.args.kind
-          c.args.settings c.args.parent c.self.inside.sources c.self.invariant.shape);
-    }
+settle_living-requires c = record {
+  count = rw (c.in-Ok.ensures.ok, c.in-Ok-create_input.ensures.ok)
+      (ap (λ n. n + 1) c.self.invariant.told.count
+      ∙ sym (input_count c.args.name c.args.kind c.args.settings c.args.parent
+      c.self.inside.sources));
+  edited = rw c.in-Ok-create_input.ensures.ok (input_made_shape c.args.name c.args.kind
+      c.args.settings c.args.parent c.self.inside.sources c.self.invariant.shape
+      c.requires.input (wanted_place c.args.parent c.requires.place)
+      (rw c.bytes.ensures.value at (c.in_default.ensures.refused c.args.settings)));
+  begun = rw (
+    c.in-Ok.ensures.ok,
+    c.in-Ok-create_input.ensures.ok,
+    made_clock c.args.name c.args.kind c.args.settings c.args.parent c.self.inside.sources,
+  ) c.self.invariant.begun;
+  living = rw c.in-Ok-create_input.ensures.ok (input_lets_live c.args.name c.args.kind
+      c.args.settings c.args.parent c.self.inside.sources c.self.invariant.shape);
+}
 
 pub returns-in-Ok-create_input-clause-ok : goal.returns-in-Ok-create_input-clause-ok
 unfolding edited
 returns-in-Ok-create_input-clause-ok c = rw (
   c.settle_living.ensures.state,
   c.settle_living.ensures.begun,
-  ap (λ (t : Tallied). t.begun) c.in-Ok.ensures.ok,
+  c.in-Ok.ensures.ok,
   ← c.self.view_is,
   c.in-Ok-create_input.ensures.ok,
 )

@@ -1,7 +1,6 @@
 -- there is one row more, and the sources are settled
-use Rattle.std.proofs.Common.{◌≡◌, ◌+◌, ap, length, arith, sym, ◌∙◌, subst, Err}
+use Rattle.std.proofs.Common.{◌+◌, ap, sym, ◌∙◌, subst, Err}
 use Rattle.mix_model.specs.Marks.{edited, GraphModel}
-use Rattle.mix_store.specs.Settling.{Tallied}
 use Rattle.mix_store.proofs.CheckLemmas.{scene_count}
 use Rattle.mix_model.specs.Edits.{scene_created}
 use Rattle.mix_shape.proofs.BareLemmas.{scene_lets_live, bare_scene}
@@ -14,31 +13,25 @@ use Rattle.mix_graph.proofs.graph.Graph.create_scene.Goals as goal
 
 pub settle_living-requires : goal.settle_living-requires
 unfolding scene_created
-settle_living-requires c =
-    let more : length c.create_scene.new.self.rows ≡ length c.self.inside.sources.rows + 1 =
-    rw c.in-Ok-create_scene.ensures.ok (scene_count c.args.name
-    c.self.inside.sources) in
-    let grown : c.grow.new.self.count ≡ c.self.inside.tally.count + 1 =
-    ap (λ (t : Tallied). t.count) c.in-Ok.ensures.ok in
-    let each : c.self.inside.tally.count ≡ length c.self.inside.sources.rows =
-    c.self.invariant.told.count in
-    record {
-      count = omega (arith, more, grown, each);
-      edited = rw c.in-Ok-create_scene.ensures.ok (scene_created_shape c.args.name c.self.inside.sources
-          c.self.invariant.shape
-          (bare_scene c.args.name c.self.inside.sources c.self.invariant.shape
-          ∙ rw c.bytes.ensures.value at c.in_default.ensures.refused));
-      begun = rw (c.in-Ok.ensures.ok, c.in-Ok-create_scene.ensures.ok) c.self.invariant.begun;
-      living = rw c.in-Ok-create_scene.ensures.ok
-          (scene_lets_live c.args.name c.self.inside.sources c.self.invariant.shape);
-    }
+settle_living-requires c = record {
+  count = rw (c.in-Ok.ensures.ok, c.in-Ok-create_scene.ensures.ok)
+      (ap (λ n. n + 1) c.self.invariant.told.count
+      ∙ sym (scene_count c.args.name c.self.inside.sources));
+  edited = rw c.in-Ok-create_scene.ensures.ok (scene_created_shape c.args.name c.self.inside.sources
+      c.self.invariant.shape
+      (bare_scene c.args.name c.self.inside.sources c.self.invariant.shape
+      ∙ rw c.bytes.ensures.value at c.in_default.ensures.refused));
+  begun = rw (c.in-Ok.ensures.ok, c.in-Ok-create_scene.ensures.ok) c.self.invariant.begun;
+  living = rw c.in-Ok-create_scene.ensures.ok
+      (scene_lets_live c.args.name c.self.inside.sources c.self.invariant.shape);
+}
 
 pub returns-in-Ok-create_scene-clause-ok : goal.returns-in-Ok-create_scene-clause-ok
 unfolding edited
 returns-in-Ok-create_scene-clause-ok c = rw (
   c.settle_living.ensures.state,
   c.settle_living.ensures.begun,
-  ap (λ (t : Tallied). t.begun) c.in-Ok.ensures.ok,
+  c.in-Ok.ensures.ok,
   ← c.self.view_is,
   c.in-Ok-create_scene.ensures.ok,
 )

@@ -1,27 +1,21 @@
 -- the flags are cut to the rows that are left, and the sources are settled
-use Rattle.std.proofs.Common.{◌≡◌, ◌≤◌, ap, length, arith, refl}
+use Rattle.std.proofs.Common.{refl}
 use Rattle.mix_model.specs.Marks.{edited}
-use Rattle.mix_store.specs.Settling.{Tallied}
 use Rattle.mix_shape.proofs.DestroyedShape.{destroyed_less, next_destroyed_shape, destroyed_clock}
 use Rattle.mix_graph.proofs.graph.Graph.destroy_next.Goals as goal
 
 pub cut-requires : goal.cut-requires
-cut-requires c =
-    let less : length c.destroy_next-destroyed.new.self.rows
-    ≤ length c.self.inside.sources.rows =
-    rw c.destroy_next-destroyed.ensures.state (destroyed_less c.self.inside.sources) in
-    let count : length c.rows.result.now ≡ length c.destroy_next-destroyed.new.self.rows =
-    ap length c.rows.ensures.value in
-    let each : c.self.inside.tally.count ≡ length c.self.inside.sources.rows =
-    c.self.invariant.told.count in
-    record { fewer = omega (arith, less, count, each) }
+cut-requires c = record {
+  fewer = rw (c.rows.ensures.value, c.destroy_next-destroyed.ensures.state)
+      (rw c.self.invariant.told.count (destroyed_less c.self.inside.sources));
+}
 
 pub returns-clause-state : goal.returns-clause-state
 unfolding edited
 returns-clause-state c = rw (
   c.settle.ensures.state,
   c.settle.ensures.begun,
-  ap (λ (t : Tallied). t.begun) c.cut.ensures.value,
+  c.cut.ensures.value,
   ← c.self.view_is,
   c.destroy_next-destroyed.ensures.state,
 )

@@ -1,22 +1,19 @@
 -- there is room for all rows, and the flags are those of activity
-use Rattle.std.proofs.Common.{◌≡◌, ◌≤◌, ◌∙◌, arith, length, []}
+use Rattle.std.proofs.Common.{◌∙◌, arith}
 use Rattle.std.proofs.lemmas.Grind.{common_steps}
-use Rattle.mix_store.specs.Settling.{flagged}
-use Rattle.mix_store.proofs.SettleLemmas.{flagged_few, flagged_active}
+use Rattle.mix_model.specs.Walks.{is_active}
+use Rattle.mix_store.proofs.SettleLemmas.{flagged_few, flagged_by}
 use Rattle.mix_store.proofs.KeptLemmas.{all_written}
 use Rattle.mix_store.proofs.sources.Sources.active_rows.Goals as goal
 
 pub push_flagged-requires-clause-room : goal.push_flagged-requires-clause-room
 push_flagged-requires-clause-room c =
-    let few : length (flagged c.as_slice.result.now c.flag_active.new.flags)
-    ≤ length c.as_slice.result.now =
-    flagged_few c.as_slice.result.now c.flag_active.new.flags in
+    let few = flagged_few c.as_slice.result.now c.flag_active.new.flags in
     grind (arith, common_steps, few)
 
 pub returns : goal.returns
 returns c =
-    let none : c.reserve.new.self.items ≡ [] =
-    c.reserve.ensures.items ∙ c.new-serials.ensures.items in
+    let none = c.reserve.ensures.items ∙ c.new-serials.ensures.items in
     let flags = all_written c.flag_active.new.flags c.in_ok-flags.flags.items
     c.in_ok-flags.flags.len (grind (arith, common_steps)) (grind (arith, common_steps)) in
     record {
@@ -28,5 +25,6 @@ returns c =
         flags,
         c.flag_active.ensures,
         ← c.self.view_is,
-      ) (flagged_active _);
+      ) (rw (← c.self.view_is)
+          at (flagged_by (is_active c.args.self.now) c.args.self.now.rows));
     }

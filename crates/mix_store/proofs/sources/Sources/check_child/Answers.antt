@@ -4,7 +4,7 @@ use Rattle.mix_model.specs.Ranks.{ranks_within, weights_within}
 use Rattle.mix_model.specs.State.{GraphState}
 use Rattle.mix_store.proofs.ItemLemmas.{late_chained}
 use Rattle.mix_shape.proofs.WithLemmas.{late_few}
-use Rattle.mix_store.proofs.CheckLemmas.{item_refuses, item_allows}
+use Rattle.mix_store.proofs.CheckLemmas.{item_late_is, late_refuses}
 use Rattle.mix_store.proofs.sources.Sources.check_child.Goals as goal
 
 -- rows are no deeper or heavier than may be, and which rows are shown was asked
@@ -29,25 +29,20 @@ returns-then-is_chained-clause-refused c = λ spec. late_chained c.args.self.now
 
 pub returns-in-Some-clause-refused : goal.returns-in-Some-clause-refused
 returns-in-Some-clause-refused c = λ spec.
-    let rows : c.self.inside.rows.items ≡ c.args.self.now.rows =
-    ap (λ (g : GraphState). g.rows) c.self.view_is in
-    let some = rw (c.as_slice-rows.ensures.value, rows) at (sym c.late_cause.ensures ∙ c.in-Some.is) in
-    item_refuses (Unit {0}) c.args.self.now c.args.parent c.args.child spec c.in-Some.fault
-    (sym c.is_chained.ensures ∙ c.if-is_chained.false) (rw rows at c.self.invariant.differ)
-    c.requires.there some
+    let some = rw c.as_slice-rows.ensures.value at (sym c.late_cause.ensures ∙ c.in-Some.is) in
+    late_refuses (Unit {0}) _ _ c.args.self.now.rows _ c.in-Some.fault
+    (item_late_is c.args.self.now c.args.parent c.args.child spec
+    (sym c.is_chained.ensures ∙ c.if-is_chained.false)
+    (rw (← c.self.view_is) c.self.invariant.differ) c.requires.there)
+    (rw (← c.self.view_is) some)
 
 pub returns-in-None-clause-few : goal.returns-in-None-clause-few
-returns-in-None-clause-few c =
-    let rows : c.self.inside.rows.items ≡ c.args.self.now.rows =
-    ap (λ (g : GraphState). g.rows) c.self.view_is in
-    late_few _ c.args.self.now.rows _
-    (rw (c.as_slice-rows.ensures.value, rows) at (sym c.late_cause.ensures ∙ c.in-None.is))
+returns-in-None-clause-few c = rw (← c.self.view_is) (late_few _ c.self.inside.rows.items _
+    (rw c.as_slice-rows.ensures.value at (sym c.late_cause.ensures ∙ c.in-None.is)))
 
 pub returns-in-None-clause-refused : goal.returns-in-None-clause-refused
 returns-in-None-clause-refused c = λ spec.
-    let rows : c.self.inside.rows.items ≡ c.args.self.now.rows =
-    ap (λ (g : GraphState). g.rows) c.self.view_is in
-    let none = rw (c.as_slice-rows.ensures.value, rows) at (sym c.late_cause.ensures ∙ c.in-None.is) in
-    item_allows c.args.self.now c.args.parent c.args.child spec
-    (sym c.is_chained.ensures ∙ c.if-is_chained.false) (rw rows at c.self.invariant.differ)
-    c.requires.there none
+    let none = rw c.as_slice-rows.ensures.value at (sym c.late_cause.ensures ∙ c.in-None.is) in
+    item_late_is c.args.self.now c.args.parent c.args.child spec
+    (sym c.is_chained.ensures ∙ c.if-is_chained.false)
+    (rw (← c.self.view_is) c.self.invariant.differ) c.requires.there ∙ rw (← c.self.view_is) none

@@ -1,8 +1,7 @@
 -- the item and where its copy goes, and then what is late for an item of its child
-use Rattle.std.proofs.Common.{◌≡◌, ◌∙◌, sym, None, true, false, is_none, refl}
+use Rattle.std.proofs.Common.{◌∙◌, sym}
 use Rattle.mix_model.specs.declared.item.Item.{Item}
 use Rattle.mix_model.specs.Items.{spec_of}
-use Rattle.mix_model.specs.Lookups.{item_at}
 use Rattle.mix_store.proofs.CreateLemmas.{refused_same}
 use Rattle.mix_store.proofs.ItemLemmas.{copied_there, goal_there}
 use Rattle.mix_store.proofs.CheckLemmas.{early_fault, copy_early_cause, copied_refuses}
@@ -15,13 +14,10 @@ returns-in-Some-clause-refused c = early_fault Item _ _ c.in-Some.fault
 
 pub unreachable-requires : goal.unreachable-requires
 unreachable-requires c =
-    let none : item_at c.args.self.now c.args.parent c.args.id ≡ None =
-    sym c.item.ensures ∙ sym c.copied.ensures ∙ c.in_default-copied.is in
-    let there : is_none (item_at c.args.self.now c.args.parent c.args.id) ≡ false =
-    copied_there c.args.self.now c.args.parent c.args.id c.args.to
+    let none = sym c.item.ensures ∙ sym c.copied.ensures ∙ c.in_default-copied.is in
+    let there = copied_there c.args.self.now c.args.parent c.args.id c.args.to
     (sym c.copy_early-early.ensures ∙ c.in_default.is) in
-    let gone : is_none (item_at c.args.self.now c.args.parent c.args.id) ≡ true = rw none refl in
-    absurd (cc (sym gone ∙ there))
+    absurd (cc (rw none at there))
 
 pub check_child-requires : goal.check_child-requires
 check_child-requires c = record {

@@ -1,7 +1,6 @@
 -- the parent and the child, and then what is late
 use Rattle.std.proofs.Common.{sym, ◌∙◌}
-use Rattle.mix_model.specs.Edits.{item_added}
-use Rattle.mix_store.proofs.ItemLemmas.{parent_there, item_free}
+use Rattle.mix_store.proofs.ItemLemmas.{parent_there}
 use Rattle.mix_store.proofs.CheckLemmas.{early_fault, item_early_cause, ok_always}
 use Rattle.mix_store.proofs.sources.Sources.check_item.Goals as goal
 
@@ -24,6 +23,4 @@ returns-clause-there c = ok_always _ c.check_child.result
 
 pub returns-clause-refused : goal.returns-clause-refused
 returns-clause-refused c = λ spec.
-    rw (item_free c.args.self.now (item_added c.args.parent c.args.child spec c.args.self.now)
-    c.args.parent c.args.child (sym c.item_early-early.ensures ∙ c.in_default.is))
-    (c.check_child.ensures.refused spec)
+    rw (sym c.item_early-early.ensures ∙ c.in_default.is) (c.check_child.ensures.refused spec)

@@ -1,7 +1,6 @@
 -- one row more, in its room
-use Rattle.std.proofs.Common.{◌≡◌, ap, [], vec_capacity, arith}
+use Rattle.std.proofs.Common.{ap, vec_capacity, arith}
 use Rattle.std.proofs.lemmas.Grind.{common_steps}
-use Rattle.mix_model.specs.State.{GraphState}
 use Rattle.mix_model.specs.declared.row.Row.{Row}
 use Rattle.mix_model.specs.Rows.{new_row}
 use Rattle.mix_model.specs.Edits.{scene_created}
@@ -11,16 +10,15 @@ use Rattle.mix_store.proofs.sources.Sources.create_scene.Goals as goal
 pub invariant_of-self-2 : goal.invariant_of-self-2
 unfolding new_row
 invariant_of-self-2 c =
-    let next : c.self.inside.next_serial ≡ c.args.self.now.next_serial =
-    ap (λ (g : GraphState). g.next_serial) c.self.view_is in
-    let bare : c.new_row-row.result.items ≡ [] = ap (λ (r : Row). r.items) c.new_row-row.ensures in
     order_row c.self.inside.rows.items c.push_reserved.new.self.items c.new_row-row.result
     c.reserve_source.new.dying.items (vec_capacity c.self.inside.dying)
     (vec_capacity c.reserve_source.new.dying) c.self.inside.next_serial
     (rw c.reserve_source.ensures.dying c.self.invariant)
-    (rw (← c.reserve_source.ensures.rows) c.push_reserved.ensures.items) bare
+    (rw (← c.reserve_source.ensures.rows) c.push_reserved.ensures.items)
+    (ap (λ (r : Row). r.items) c.new_row-row.ensures)
     (grind (arith, common_steps, c.in-Ok.ensures.dying_room))
-    (rw next c.requires.drawn) (ap (λ (r : Row). r.serial) c.new_row-row.ensures)
+    (rw (← c.self.view_is) at c.requires.drawn)
+    (ap (λ (r : Row). r.serial) c.new_row-row.ensures)
 
 pub returns-clause-ok : goal.returns-clause-ok
 unfolding scene_created

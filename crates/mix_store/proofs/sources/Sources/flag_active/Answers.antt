@@ -1,5 +1,4 @@
 -- all flags are off at first
-use Rattle.std.proofs.Common.{◌≡◌, length}
 use Rattle.mix_model.specs.Walks.{is_active}
 use Rattle.mix_store.specs.Searched.{reached_in}
 use Rattle.mix_store.proofs.RootLemmas.{flags_reached}
@@ -8,8 +7,7 @@ use Rattle.mix_store.proofs.sources.Sources.flag_active.Goals as goal
 pub returns : goal.returns
 unfolding is_active reached_in
 returns c =
-    let each : length c.args.flags.now ≡ length c.self.inside.rows.items =
-    rw (← c.self.view_is) at c.requires in
+    let each = rw (← c.self.view_is) at c.requires in
     rw (
       ← c.self.view_is,
       c.flag_from_channels.ensures,

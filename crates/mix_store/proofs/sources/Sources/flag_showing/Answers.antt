@@ -1,5 +1,5 @@
 -- all flags are off at first; the preview's walks come after those of the channels
-use Rattle.std.proofs.Common.{◌≡◌, ◌∙◌, length, replicate, false}
+use Rattle.std.proofs.Common.{◌∙◌, length, replicate, false}
 use Rattle.mix_model.specs.Walks.{is_showing}
 use Rattle.mix_store.specs.Searched.{reached_in}
 use Rattle.mix_store.proofs.FlagLemmas.{flags_both}
@@ -9,8 +9,7 @@ use Rattle.mix_store.proofs.sources.Sources.flag_showing.Goals as goal
 pub returns : goal.returns
 unfolding is_showing reached_in
 returns c =
-    let each : length c.args.flags.now ≡ length c.self.inside.rows.items =
-    rw (← c.self.view_is) at c.requires in
+    let each = rw (← c.self.view_is) at c.requires in
     let shown = rw (← c.self.view_is) at c.preview_row.ensures in
     rw (
       ← c.self.view_is,

@@ -3,7 +3,7 @@ use Rattle.std.proofs.Common.{arith, ap, sym, ◌∙◌}
 use Rattle.std.proofs.lemmas.Grind.{common_steps}
 use Rattle.mix_model.specs.Marks.{changes_by}
 use Rattle.mix_shape.proofs.MarkedLemmas.{nothing_changed}
-use Rattle.mix_store.proofs.KeptLemmas.{marked_all, all_written}
+use Rattle.mix_store.proofs.KeptLemmas.{marked_from, all_written}
 use Rattle.mix_store.proofs.tally.Tally.begin.Goals as goal
 
 pub returns-clause-begun : goal.returns-clause-begun
@@ -21,7 +21,7 @@ returns-clause-begun c =
       showing,
       c.flag_active.ensures,
       c.flag_showing.ensures,
-    ) (marked_all c.args.sources.now)
+    ) (marked_from c.args.sources.now c.args.sources.now.rows)
 
 pub returns-clause-told : goal.returns-clause-told
 returns-clause-told c = record {

@@ -2,7 +2,6 @@
 use Rattle.std.proofs.Common.{◌≡◌, arith, length}
 use Rattle.std.proofs.lemmas.Grind.{common_steps}
 use Rattle.mix_model.specs.Marks.{settled_by}
-use Rattle.mix_shape.specs.Begun.{BegunAs}
 use Rattle.mix_shape.proofs.MarkedLemmas.{marks_rise}
 use Rattle.mix_shape.proofs.WholeLemmas.{settled_keeps}
 use Rattle.mix_store.proofs.KeptLemmas.{settled_length}
@@ -24,8 +23,7 @@ tell-requires c =
 pub returns-clause-whole : goal.returns-clause-whole
 unfolding settled_by
 returns-clause-whole c =
-    let begun : BegunAs c.self.inside.begun.items c.args.sources.now.clock =
-    rw (← c.self.view_is) at c.requires.begun in
+    let begun = rw (← c.self.view_is) at c.requires.begun in
     record {
       told = c.tell.ensures.told;
       shape = rw (c.settle.ensures, c.as_slice.ensures.value)
